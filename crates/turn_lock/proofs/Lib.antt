@@ -1,0 +1,15 @@
+pub mod Totals
+pub mod Entries
+pub mod Parts
+pub mod NumberSteps
+pub mod TicketSteps
+pub mod TurnSteps
+pub mod JoinSteps
+pub mod AllJoined
+pub mod SeatValues
+pub mod AtSeats
+pub mod Opening
+pub mod Passes
+pub mod WorkedFacts
+pub mod Turns
+pub mod TwoPasses

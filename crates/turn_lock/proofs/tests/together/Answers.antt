@@ -1,0 +1,9 @@
+use Rattle.std.proofs.Common.{◌≡◌, ◌++◌, ◌∷◌, [], ap, sym, ◌∙◌, subst}
+use Rattle.turn_lock.specs.Passes.{AreAllOf}
+use Rattle.turn_lock.proofs.TwoPasses.{two_are_all}
+use Rattle.turn_lock.proofs.tests.together.Goals as goal
+
+pub returns : goal.returns
+returns c = let p = c.args.first in let q = c.args.second in let r = c.requires in
+    let whole : c.push-2.new.self ≡ p ∷ q ∷ [] = c.in_ok-push-2.ensures.ok ∙ ap (λ xs. xs ++ q ∷ []) (c.in_ok-push.ensures.ok ∙ ap (λ xs. xs ++ p ∷ []) c.new-passes.ensures) in
+    subst (AreAllOf c.args.lock.now) (sym whole) (two_are_all c.args.lock.now r.callers p q r.first.0 r.second.0 r.first.1 r.second.1)
