@@ -1,0 +1,25 @@
+-- The CLI header: ECMA-335 II.25.3.3.
+use Rattle.std.specs.Prelude.{ℕ, ◌/◌, ◌%◌, ◌^◌, Bool, List, ◌==◌, ◌&&◌, not}
+use Rattle.cil_base.specs.Token.{Token}
+use Rattle.pe_image.specs.Places.{u32_at}
+use Rattle.pe_image.specs.Headers.{cli_rva}
+use Rattle.pe_image.specs.Sections.{bytes_from}
+
+-- the bytes from the RVA of directory 14; the header is the first 72 of them
+unfoldable pub cli_header : List ℕ → List ℕ
+cli_header b = bytes_from b (cli_rva b)
+
+-- the RVA and the size of the metadata
+abbrev pub metadata_rva : List ℕ → ℕ
+metadata_rva b = u32_at (cli_header b) 8
+
+abbrev pub metadata_size : List ℕ → ℕ
+metadata_size b = u32_at (cli_header b) 12
+
+-- whether CodeManagerTable, VTableFixups, ExportAddressTableJumps or ManagedNativeHeader names an RVA
+unfoldable pub has_native : List ℕ → Bool
+has_native cli = not ((u32_at cli 40 == 0) && (u32_at cli 48 == 0) && (u32_at cli 56 == 0) && (u32_at cli 64 == 0))
+
+-- a stored token: the table's number in the highest byte, the row's in the rest (II.22)
+abbrev pub token_of : ℕ → Token
+token_of number = record { table = number / 2 ^ 24; rid = number % 2 ^ 24 }

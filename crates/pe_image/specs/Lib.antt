@@ -1,0 +1,10 @@
+pub mod Places
+pub mod Headers
+pub mod Sections
+pub mod CliHeader
+pub mod Metadata
+pub mod Streams
+pub mod Facts
+pub mod Layout
+pub mod Rows
+pub mod Thin
