@@ -1,0 +1,62 @@
+ghost use Rattle.std.specs.Prelude.{◌≡◌, ◌==◌};
+ghost use Rattle.std.specs.List.{position};
+ghost use Rattle.std.specs.Option.{option_copied};
+ghost use Rattle.md_heaps.specs.Entries.{before_zero, text};
+
+use cil_base::from_index;
+
+/// The place of the first zero byte.
+fn first_zero(bytes: &[u8]) -> Option<usize>
+    ensures { result ≡ position (λ byte. byte == 0) bytes.now }
+{
+    bytes.iter().position(|byte| *byte == 0)
+}
+
+/// The bytes before the first zero byte. `None` where there is no zero byte.
+fn before_zero(bytes: &[u8]) -> Option<&[u8]>
+    ensures { option_copied result ≡ before_zero bytes.now }
+{
+    let end = first_zero(bytes)?;
+    Some(&bytes[..end])
+}
+
+/// The text at an index of the #Strings heap, without the zero byte that ends it. Index 0 is the empty text, whatever the
+/// heap holds. `None` where the index is not 0 and no zero byte stands at or after it (ECMA-335 II.24.2.3).
+#[tactic(auto, unfolding(crate::specs::Entries::text))]
+pub fn string_at(heap: &[u8], index: u32) -> Option<&[u8]>
+    ensures { option_copied result ≡ text heap.now index }
+{
+    if index == 0 {
+        return Some(&[]);
+    }
+    before_zero(from_index(heap, index))
+}
+
+#[cfg(test)]
+mod tests {
+    use super::*;
+
+    #[test]
+    fn texts_end_before_their_zero_byte(rt: HostRuntime) {
+        let heap: &[u8] = b"!<Module>\0small.dll\0\0cut";
+        let rows: [(u32, Option<&[u8]>); 8] = [
+            (0, Some(b"")),
+            (1, Some(b"<Module>")),
+            (8, Some(b">")),
+            (9, Some(b"")),
+            (10, Some(b"small.dll")),
+            (20, Some(b"")),
+            (21, None),
+            (24, None),
+        ];
+        for (index, want) in rows {
+            assert_eq!(rt; string_at(heap, index), want, "at {index}");
+        }
+        assert_eq!(rt;
+            string_at(&[], 0),
+            Some(b"" as &[u8]),
+            "an empty heap has the empty text"
+        );
+        assert_eq!(rt; string_at(&[], 1), None, "and no other");
+    }
+}
