@@ -1,0 +1,10 @@
+pub mod Coded
+pub mod CodedKind
+pub mod Column
+pub mod Entry
+pub mod Link
+pub mod Reference
+pub mod Schema
+pub mod Spelling
+pub mod Tables
+pub mod Width
