@@ -1,0 +1,45 @@
+-- Rows and links.
+use Rattle.std.proofs.Common.{◌≡◌, ℕ, ◌+◌, ◌-◌, ◌≤◌, Bool, true, false, cond, List, [], ◌∷◌, ◌++◌, refl, sym, ap, ◌∙◌, arith}
+use Rattle.std.specs.List.{filter}
+use Rattle.std.proofs.lemmas.List.{append-nil}
+use Rattle.std.proofs.lemmas.List.FromFn.{filter_of_map_range_with_len_more}
+use Rattle.md_tables.specs.Layout.{Head, Opens}
+use Rattle.md_tables.specs.Links.{rows_to}
+use Rattle.md_tables.specs.Runs.{row_count}
+use Rattle.md_schema.specs.Width.{rows_of}
+use Rattle.cil_base.specs.Token.{Token}
+
+pub row_count-is : (stream : List ℕ) (head : Head) (table : ℕ) → Opens stream head → rows_of head.counts table ≡ row_count stream table
+row_count-is stream head table o = ap (λ (h : Head). rows_of h.counts table) o.seen
+
+pub rows_to-none : (p : Token → Bool) (table : ℕ) → filter p (rows_to table 0) ≡ []
+unfolding rows_to
+rows_to-none p table = refl
+
+pub rows_to-more : (p : Token → Bool) (table n : ℕ) →
+    filter p (rows_to table (n + 1)) ≡ filter p (rows_to table n) ++ cond (p (record { table = table; rid = n + 1 })) (record { table = table; rid = n + 1 } ∷ []) []
+unfolding rows_to
+rows_to-more p table n = filter_of_map_range_with_len_more p (λ rid. record { table = table; rid = rid }) 1 n (n + 1) (omega arith)
+
+-- one more row
+linked-next : (p : Token → Bool) (table rid : ℕ) → 1 ≤ rid →
+    filter p (rows_to table (rid + 1 - 1)) ≡ filter p (rows_to table (rid - 1)) ++ cond (p (record { table = table; rid = rid })) (record { table = table; rid = rid } ∷ []) []
+linked-next p table rid h =
+    let here : rid + 1 - 1 ≡ rid - 1 + 1 = omega arith in
+    let same : rid - 1 + 1 ≡ rid = omega arith in
+    ap (λ n. filter p (rows_to table n)) here ∙ rows_to-more p table (rid - 1)
+    ∙ ap (λ n. filter p (rows_to table (rid - 1)) ++ cond (p (record { table = table; rid = n })) (record { table = table; rid = n } ∷ []) []) same
+
+pub linked-yes : (p : Token → Bool) (table rid : ℕ) (rows new : List Token) → 1 ≤ rid → rows ≡ filter p (rows_to table (rid - 1)) → p (record { table = table; rid = rid }) ≡ true →
+    new ≡ rows ++ record { table = table; rid = rid } ∷ [] → new ≡ filter p (rows_to table (rid + 1 - 1))
+linked-yes p table rid rows new h so_far it_is e =
+    e ∙ ap (λ r. r ++ record { table = table; rid = rid } ∷ []) so_far
+    ∙ ap (λ b. filter p (rows_to table (rid - 1)) ++ cond b (record { table = table; rid = rid } ∷ []) []) (sym it_is)
+    ∙ sym (linked-next p table rid h)
+
+pub linked-no : (p : Token → Bool) (table rid : ℕ) (rows new : List Token) → 1 ≤ rid → rows ≡ filter p (rows_to table (rid - 1)) → p (record { table = table; rid = rid }) ≡ false →
+    new ≡ rows → new ≡ filter p (rows_to table (rid + 1 - 1))
+linked-no p table rid rows new h so_far it_is e =
+    e ∙ so_far ∙ sym (append-nil (filter p (rows_to table (rid - 1))))
+    ∙ ap (λ b. filter p (rows_to table (rid - 1)) ++ cond b (record { table = table; rid = rid } ∷ []) []) (sym it_is)
+    ∙ sym (linked-next p table rid h)
