@@ -1,0 +1,196 @@
+//! Clauses of sections (ECMA-335 II.25.4.6): in a small section 12 bytes, in a fat one 24.
+//!
+//! | small: offset, size | fat: offset, size | field |
+//! |---|---|---|
+//! | 0, 2 | 0, 4 | flags: 0 typed, 1 filter, 2 finally, 4 fault |
+//! | 2, 2 | 4, 4 | the protected range's offset in the code |
+//! | 4, 1 | 8, 4 | its length |
+//! | 5, 2 | 12, 4 | the handler's offset in the code |
+//! | 7, 1 | 16, 4 | its length |
+//! | 8, 4 | 20, 4 | the type's token, or the filter's offset in the code |
+
+ghost use Rattle.std.specs.Prelude.{◌≡◌, ◌+◌, ◌<◌, ◌≤◌, ◌^◌, true, false, IfOk, length};
+ghost use Rattle.il_code.specs.Sections.{fields_at, handler_kind};
+ghost use Rattle.il_code.specs.Numbering.{Rising, after_front, handlers_in, with_last, numbered_kind, numbered_clause};
+
+use crate::handler::{Handler, HandlerKind};
+use crate::number::{number_of, target_of};
+use crate::numbers::{token, u8_at, u16_at, u32_at};
+use crate::section::{Section, clause_len};
+use cil_base::{List, NoMemory};
+
+/// The fields of a clause.
+#[derive(Clone, Copy, Debug, PartialEq, Eq)]
+pub struct Clause {
+    pub flags: u32,
+    pub try_offset: u32,
+    pub try_len: u32,
+    pub offset: u32,
+    pub len: u32,
+    pub last: u32,
+}
+
+/// The fields of the clause of 12 bytes at a place.
+#[tactic(auto, unfolding(crate::specs::Sections::fields_at))]
+fn read_small(bytes: &[u8], place: usize) -> Option<Clause>
+    requires { place < 2 ^ 63 + 2 ^ 40 }
+    ensures { result ≡ fields_at false bytes.now place }
+{
+    let flags = u16_at(bytes, place)? as u32;
+    let try_offset = u16_at(bytes, place + 2)? as u32;
+    let try_len = u8_at(bytes, place + 4)? as u32;
+    let offset = u16_at(bytes, place + 5)? as u32;
+    let len = u8_at(bytes, place + 7)? as u32;
+    let last = u32_at(bytes, place + 8)?;
+    Some(Clause {
+        flags,
+        try_offset,
+        try_len,
+        offset,
+        len,
+        last,
+    })
+}
+
+/// The fields of the clause of 24 bytes at a place.
+#[tactic(auto, unfolding(crate::specs::Sections::fields_at))]
+fn read_fat(bytes: &[u8], place: usize) -> Option<Clause>
+    requires { place < 2 ^ 63 + 2 ^ 40 }
+    ensures { result ≡ fields_at true bytes.now place }
+{
+    let flags = u32_at(bytes, place)?;
+    let try_offset = u32_at(bytes, place + 4)?;
+    let try_len = u32_at(bytes, place + 8)?;
+    let offset = u32_at(bytes, place + 12)?;
+    let len = u32_at(bytes, place + 16)?;
+    let last = u32_at(bytes, place + 20)?;
+    Some(Clause {
+        flags,
+        try_offset,
+        try_len,
+        offset,
+        len,
+        last,
+    })
+}
+
+/// The fields of the clause at a place.
+fn read_fields(bytes: &[u8], place: usize, fat: bool) -> Option<Clause>
+    requires { place < 2 ^ 63 + 2 ^ 40 }
+    ensures { result ≡ fields_at fat bytes.now place }
+{
+    if fat {
+        read_fat(bytes, place)
+    } else {
+        read_small(bytes, place)
+    }
+}
+
+/// The kind of a handler, whose filter is a place.
+#[tactic(auto, unfolding(crate::specs::Sections::handler_kind))]
+fn read_kind(flags: u32, last: u32) -> Option<HandlerKind>
+    ensures { result ≡ handler_kind flags last }
+{
+    match flags {
+        0 => Some(HandlerKind::Typed(token(last))),
+        1 => Some(HandlerKind::Filter(last)),
+        2 => Some(HandlerKind::Finally),
+        4 => Some(HandlerKind::Fault),
+        _ => None,
+    }
+}
+
+/// The kind of a handler with a number in place of its filter's place.
+#[tactic(auto, unfolding(crate::specs::Numbering::numbered_kind))]
+fn number_kind(places: &[u128], count: usize, kind: HandlerKind) -> Option<HandlerKind>
+    requires size { length places.now ≤ 2 ^ 32 }
+    requires rising { Rising places.now }
+    ensures { result ≡ numbered_kind places.now count kind }
+{
+    match kind {
+        HandlerKind::Filter(place) => {
+            let start = target_of(places, count, place as u64)?;
+            Some(HandlerKind::Filter(start))
+        }
+        other => Some(other),
+    }
+}
+
+/// The handler of the clause at a place. None where a bound is no place of an instruction.
+#[tactic(auto, unfolding(crate::specs::Numbering::numbered_clause, crate::specs::Numbering::numbered_handler, crate::specs::Sections::clause_at, crate::specs::Sections::handler_of))]
+fn read_clause(
+    places: &[u128],
+    count: usize,
+    bytes: &[u8],
+    place: usize,
+    fat: bool,
+) -> Option<Handler>
+    requires size { length places.now ≤ 2 ^ 32 }
+    requires rising { Rising places.now }
+    requires place { place < 2 ^ 63 + 2 ^ 40 }
+    ensures { result ≡ numbered_clause places.now count fat bytes.now place }
+{
+    let clause = read_fields(bytes, place, fat)?;
+    let kind = read_kind(clause.flags, clause.last)?;
+    let kind = number_kind(places, count, kind)?;
+    let try_start = number_of(places, clause.try_offset as u64)?;
+    let try_end = number_of(places, clause.try_offset as u64 + clause.try_len as u64)?;
+    let start = number_of(places, clause.offset as u64)?;
+    let end = number_of(places, clause.offset as u64 + clause.len as u64)?;
+    Some(Handler {
+        kind,
+        try_start,
+        try_end,
+        start,
+        end,
+    })
+}
+
+/// The handlers so far, with that of the clause at a place. None where it is not there.
+fn add_clause(
+    handlers: List<Handler>,
+    places: &[u128],
+    count: usize,
+    bytes: &[u8],
+    place: usize,
+    fat: bool,
+) -> Result<Option<List<Handler>>, NoMemory>
+    requires size { length places.now ≤ 2 ^ 32 }
+    requires rising { Rising places.now }
+    requires place { place < 2 ^ 63 + 2 ^ 40 }
+    ensures { IfOk result (λ all. all ≡ with_last handlers (numbered_clause places.now count fat bytes.now place)) }
+{
+    let Some(handler) = read_clause(places, count, bytes, place, fat) else {
+        return Ok(None);
+    };
+    let mut all = handlers;
+    all.extend(&[handler])?;
+    Ok(Some(all))
+}
+
+/// The handlers so far, with those of a section whose clauses begin at a place. None where one of its clauses is not there.
+#[tactic(auto, unfolding(crate::specs::Numbering::handlers_in))]
+pub(crate) fn read_clauses(
+    handlers: List<Handler>,
+    places: &[u128],
+    count: usize,
+    bytes: &[u8],
+    section: Section,
+    place: usize,
+) -> Result<Option<List<Handler>>, NoMemory>
+    requires size { length places.now ≤ 2 ^ 32 }
+    requires rising { Rising places.now }
+    requires place { place < 2 ^ 63 + 2 ^ 33 }
+    requires section { section.count < 2 ^ 24 }
+    ensures { IfOk result (λ all. all ≡ after_front handlers (handlers_in places.now count bytes.now section place)) }
+{
+    let mut all = handlers;
+    let len = clause_len(section.fat);
+    for i in 0..section.count as usize {
+        let Some(more) = add_clause(all, places, count, bytes, place + len * i, section.fat)? else {
+            return Ok(None);
+        };
+        all = more;
+    }
+    Ok(Some(all))
+}

@@ -1,0 +1,41 @@
+ghost use Rattle.std.specs.Prelude.{◌≡◌, ◌≤◌, ◌^◌, IfOk, length};
+ghost use Rattle.il_code.specs.Numbering.{Rising, sections_in};
+
+use crate::clause::read_clauses;
+use crate::handler::Handler;
+use crate::section::{align, clause_len, read_section};
+use cil_base::{List, NoMemory};
+use std::alloc::Global;
+
+/// The handlers of the sections behind a place. None where those are not whole.
+pub(crate) fn read_sections(
+    alloc: Global,
+    places: &[u128],
+    count: usize,
+    bytes: &[u8],
+    place: usize,
+) -> Result<Option<List<Handler>>, NoMemory>
+    requires size { length places.now ≤ 2 ^ 32 }
+    requires rising { Rising places.now }
+    requires place { place ≤ length bytes.now }
+    ensures { IfOk result (λ handlers. handlers ≡ sections_in places.now count bytes.now (length bytes.now) place) }
+{
+    let mut handlers = List::new(alloc);
+    let mut place = place;
+    // each section takes four bytes or more
+    for _turn in 0..bytes.len() {
+        let start = align(place);
+        let Some(section) = read_section(bytes, start) else {
+            return Ok(None);
+        };
+        let Some(more) = read_clauses(handlers, places, count, bytes, section, start + 4)? else {
+            return Ok(None);
+        };
+        if !section.further {
+            return Ok(Some(more));
+        }
+        handlers = more;
+        place = start + 4 + section.count as usize * clause_len(section.fat);
+    }
+    Ok(None)
+}

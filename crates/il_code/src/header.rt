@@ -1,0 +1,81 @@
+//! Headers of bodies (ECMA-335 II.25.4.2 and II.25.4.3). The tiny one is a byte: 2 in its low two bits, the code's size above.
+//!
+//! | offset | size | fat header |
+//! |---|---|---|
+//! | 0 | 2 | flags, with 3 in the low two bits, and 3 in the upper four |
+//! | 2 | 2 | max stack |
+//! | 4 | 4 | the code's size in bytes |
+//! | 8 | 4 | the token of the locals, or 0 |
+
+ghost use Rattle.std.specs.Prelude.{◌≡◌};
+ghost use Rattle.il_code.specs.Sections.{header_at, fat_at, tiny};
+
+use crate::numbers::{token, u8_at, u16_at, u32_at};
+use cil_base::Token;
+
+/// What a header says.
+#[derive(Clone, Copy, Debug, PartialEq, Eq)]
+pub struct Header {
+    /// Where the code begins, in bytes from the header's first.
+    pub start: u32,
+    /// The code's size in bytes.
+    pub size: u32,
+    pub max_stack: u16,
+    pub init_locals: bool,
+    pub locals: Token,
+    /// Whether sections follow the code.
+    pub sections: bool,
+}
+
+/// The header at the front of the bytes.
+#[tactic(auto, unfolding(crate::specs::Sections::header_at))]
+pub(crate) fn read_header(bytes: &[u8]) -> Option<Header>
+    ensures { result ≡ header_at bytes.now }
+{
+    let first = u8_at(bytes, 0)?;
+    if first % 4 == 2 {
+        Some(read_tiny(first))
+    } else if first % 4 == 3 {
+        read_fat(bytes)
+    } else {
+        None
+    }
+}
+
+/// The header of one byte.
+#[tactic(auto, unfolding(crate::specs::Sections::tiny))]
+fn read_tiny(first: u8) -> Header
+    ensures { result ≡ tiny first }
+{
+    Header {
+        start: 1,
+        size: (first / 4) as u32,
+        max_stack: 8,
+        init_locals: false,
+        locals: Token::ROOT,
+        sections: false,
+    }
+}
+
+/// The header of twelve bytes.
+#[tactic(auto, unfolding(crate::specs::Sections::fat_at))]
+fn read_fat(bytes: &[u8]) -> Option<Header>
+    ensures { result ≡ fat_at bytes.now }
+{
+    let flags = u16_at(bytes, 0)?;
+    let max_stack = u16_at(bytes, 2)?;
+    let size = u32_at(bytes, 4)?;
+    let locals = u32_at(bytes, 8)?;
+    if flags / 0x1000 == 3 {
+        Some(Header {
+            start: 12,
+            size,
+            max_stack,
+            init_locals: flags / 0x10 % 2 == 1,
+            locals: token(locals),
+            sections: flags / 8 % 2 == 1,
+        })
+    } else {
+        None
+    }
+}

@@ -1,0 +1,60 @@
+//! Headers of the sections behind the code (ECMA-335 II.25.4.5): a byte of kind and flags, and the section's size in one byte, or
+//! in three where the section is fat.
+
+ghost use Rattle.std.specs.Prelude.{◌≡◌, ◌+◌, ◌<◌, ◌≤◌, ◌^◌, IfSome, length};
+ghost use Rattle.il_code.specs.Sections.{aligned, clause_size, section_at};
+
+use crate::numbers::u32_at;
+
+/// What a section's header says.
+#[derive(Clone, Copy, Debug, PartialEq, Eq)]
+pub struct Section {
+    /// Whether its clauses have 24 bytes each, and not 12.
+    pub fat: bool,
+    /// Whether another section follows.
+    pub further: bool,
+    /// The number of its clauses.
+    pub count: u32,
+}
+
+/// The bytes of a clause.
+pub(crate) fn clause_len(fat: bool) -> usize
+    ensures { result ≡ clause_size fat }
+{
+    if fat { 24 } else { 12 }
+}
+
+/// The next multiple of four.
+#[tactic(auto, unfolding(crate::specs::Sections::aligned))]
+pub(crate) fn align(place: usize) -> usize
+    requires { place < 2 ^ 63 + 2 ^ 40 }
+    ensures { result ≡ aligned place }
+{
+    (place + 3) / 4 * 4
+}
+
+/// The section whose header stands at a place.
+#[tactic(auto, unfolding(crate::specs::Sections::section_at))]
+pub(crate) fn read_section(bytes: &[u8], place: usize) -> Option<Section>
+    ensures value { result ≡ section_at bytes.now place }
+    ensures small { IfSome result (λ section. section.count < 2 ^ 24) }
+    ensures within { IfSome result (λ section. place + 4 ≤ length bytes.now) }
+{
+    let number = u32_at(bytes, place)?;
+    let kind = number % 0x100;
+    let fat = kind / 0x40 % 2 == 1;
+    let size = if fat {
+        number / 0x100
+    } else {
+        number / 0x100 % 0x100
+    };
+    if kind % 0x40 == 1 {
+        Some(Section {
+            fat,
+            further: kind / 0x80 == 1,
+            count: size / clause_len(fat) as u32,
+        })
+    } else {
+        None
+    }
+}
