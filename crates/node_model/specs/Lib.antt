@@ -1,0 +1,14 @@
+pub mod Columns
+pub mod Cells
+pub mod Entries
+pub mod RowFaults
+pub mod Keys
+pub mod Immediate
+pub mod Edits
+pub mod Status
+pub mod Held
+pub mod Reach
+pub mod Replies
+pub mod Filled
+pub mod Legal
+pub mod Laws
