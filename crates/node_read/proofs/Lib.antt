@@ -1,0 +1,4 @@
+mod Bits
+mod ThinRows
+mod CellLemmas
+mod SlotLemmas

@@ -1,0 +1,4 @@
+pub mod Rows
+pub mod Image
+pub mod Streams
+pub mod Shown
