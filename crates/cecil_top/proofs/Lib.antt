@@ -1,0 +1,6 @@
+mod Bits
+mod CellLemmas
+mod DumpLemmas
+mod ReplyLemmas
+mod StandardFacts
+mod ThinRows

@@ -1,0 +1,12 @@
+pub mod Cells
+pub mod Columns
+pub mod Dump
+pub mod Heaps
+pub mod Inspect
+pub mod Rows
+pub mod Shown
+pub mod Statuses
+pub mod Steps
+pub mod Streams
+pub mod Texts
+pub mod Words

@@ -1,0 +1,92 @@
+ghost use Rattle.std.specs.Prelude.{◌≡◌, ◌⊎◌, ◌↔◌, Err, IfErr, IfOk, IfSome, None, Some, map, string_bytes};
+ghost use Rattle.cil_outside.specs.Causes.{Rose};
+ghost use Rattle.cecil_top.specs.Dump.{thin_dump};
+ghost use Rattle.cecil_top.specs.Inspect.{Answers, Completes, Writes, held, told};
+ghost use Rattle.cecil_top.specs.Steps.{Ends, IsDump, Sends};
+ghost use Rattle.cecil_top.specs.Words.{file_name};
+
+use crate::dump::dump;
+use crate::status::{FileCause, OpenRefusal, Status};
+use crate::words::file_name;
+use cil_base::{Bytes, List, NoMemory};
+use cil_outside::{Folder, Got, Outlet, Sent};
+use pe_image::PeRefusal;
+use std::alloc::Global;
+
+/// The greatest length of a file that is read, in bytes.
+const MAX_LENGTH: u64 = 0x0400_0000;
+
+/// The status of a file that could not be taken.
+fn refusal(alloc: Global, name: &str, cause: FileCause) -> Status
+    ensures { (result ≡ Status.File name.now cause) ⊎ (result ≡ Status.NoMemory) }
+{
+    match List::from_slice(alloc, name.as_bytes()) {
+        Ok(name) => Status::File(name, cause),
+        Err(NoMemory) => Status::NoMemory,
+    }
+}
+
+/// The dump of the file of a name, or the status that reading it ends with.
+fn prepare<F: Folder>(alloc: Global, folder: &mut F, name: &str) -> Result<Bytes, Status>
+    ensures text { IfOk result (λ text. IsDump (told (F.files folder.old) (Some name.now)) text) }
+    ensures status { IfErr result (λ status. Ends (F.files folder.old) name.now status) }
+    ensures read { result ≡ Err Status.ReadFault → Rose (F.faults folder.old) (F.faults folder.new) }
+{
+    let bytes = match folder.read(alloc, name, MAX_LENGTH) {
+        Ok(Got::Found(bytes)) => bytes,
+        Ok(Got::Missing) => return Err(refusal(alloc, name, FileCause::Missing)),
+        Ok(Got::TooLong) => return Err(refusal(alloc, name, FileCause::TooLong)),
+        Ok(Got::Failed) => return Err(Status::ReadFault),
+        Err(NoMemory) => return Err(Status::NoMemory),
+    };
+    match dump(alloc, bytes.as_slice()) {
+        Ok(Some(text)) => Ok(text),
+        Ok(None) => Err(refusal(
+            alloc,
+            name,
+            FileCause::Refused(OpenRefusal::Pe(PeRefusal::NotThin)),
+        )),
+        Err(NoMemory) => Err(Status::NoMemory),
+    }
+}
+
+/// Writes the text.
+fn send<O: Outlet>(alloc: Global, out: &mut O, text: &[u8]) -> Status
+    ensures text { Sends (O.written out.old) (O.written out.new) text.now result }
+    ensures write { result ≡ Status.WriteFault → Rose (O.faults out.old) (O.faults out.new) }
+{
+    match out.text(alloc, text) {
+        Ok(Sent::Done) => Status::Ok,
+        Ok(Sent::Failed) => Status::WriteFault,
+        Err(NoMemory) => Status::NoMemory,
+    }
+}
+
+/// Does what the words say, over this folder and this outlet: `dump FILE` writes the reply to Row of the first Module row and of
+/// each TypeDef row of the image, one line each.
+pub fn inspect<F: Folder, O: Outlet>(
+    alloc: Global,
+    words: &[String],
+    folder: &mut F,
+    out: &mut O,
+) -> Status
+    // exactly where the words are not in the grammar
+    ensures usage { result ≡ Status.Usage ↔ file_name (map string_bytes words.now) ≡ None }
+    // the status that the named file calls for, exactly, but for faults and want of memory
+    ensures file { IfSome (file_name (map string_bytes words.now)) (λ name. Answers (F.files folder.old) name result) }
+    // Ok adds the dump of the named file, which is a thin image; another status nothing, but for what a failed write left
+    ensures text { Writes (told (F.files folder.old) (file_name (map string_bytes words.now))) (O.written out.old) (O.written out.new) result }
+    ensures read { result ≡ Status.ReadFault → Rose (F.faults folder.old) (F.faults folder.new) }
+    ensures write { result ≡ Status.WriteFault → Rose (O.faults out.old) (O.faults out.new) }
+    // where no count of faults rose, a file that calls for Ok gets it, but for want of memory
+    ensures complete { (Rose (F.faults folder.old) (F.faults folder.new) → ⊥) → (Rose (O.faults out.old) (O.faults out.new) → ⊥)
+        → Completes (F.files folder.old) (file_name (map string_bytes words.now)) result }
+{
+    let Some(name) = file_name(words) else {
+        return Status::Usage;
+    };
+    match prepare(alloc, folder, name) {
+        Ok(text) => send(alloc, out, text.as_slice()),
+        Err(status) => status,
+    }
+}

@@ -1,0 +1,94 @@
+ghost use Rattle.std.specs.Prelude.{◌≡◌, ◌++◌, IfOk, OnOk};
+ghost use Rattle.cecil_top.specs.Statuses.{number_of, status_text, file_text, cause_text};
+
+use cil_base::{Bytes, List, NoMemory, escape};
+use pe_image::PeRefusal;
+use std::alloc::Global;
+
+/// How a run of the program ended.
+#[derive(Debug, PartialEq, Eq, Drop)]
+pub enum Status {
+    /// All was done.
+    Ok,
+    /// The words are not those of a command.
+    Usage,
+    /// The file of this name could not be taken, for a cause that is its own.
+    File(Bytes, FileCause),
+    /// Reading failed.
+    ReadFault,
+    /// Writing failed.
+    WriteFault,
+    /// Memory was wanted and not found.
+    NoMemory,
+}
+
+/// Why a file could not be taken.
+#[derive(Debug, PartialEq, Eq, Drop)]
+pub enum FileCause {
+    /// The folder has no file of this name.
+    Missing,
+    /// The file has more than 2^26 bytes.
+    TooLong,
+    /// The file is no image that is read here.
+    Refused(OpenRefusal),
+}
+
+/// Why an image was not opened.
+#[derive(Clone, Copy, Debug, PartialEq, Eq)]
+pub enum OpenRefusal {
+    Pe(PeRefusal),
+    NoMemory,
+}
+
+impl Status {
+    /// The number that the program ends with.
+    pub fn number(&self) -> u8
+        ensures { result ≡ number_of self.now }
+    {
+        match self {
+            Status::Ok => 0,
+            Status::Usage => 2,
+            Status::File(_, _) => 4,
+            Status::ReadFault => 6,
+            Status::WriteFault => 7,
+            Status::NoMemory => 8,
+        }
+    }
+}
+
+/// The line that a status has on standard error, without a line feed; empty for Ok.
+pub fn status_line(alloc: Global, status: &Status) -> Result<Bytes, NoMemory>
+    ensures { IfOk result (λ line. line ≡ status_text status.now) }
+{
+    match status {
+        Status::Ok => Ok(List::new(alloc)),
+        Status::Usage => List::from_slice(
+            alloc,
+            b"cecil: usage: dump FILE | show FILE TOKEN | run JOB | gen N",
+        ),
+        Status::File(name, cause) => file_line(alloc, name.as_slice(), cause),
+        Status::ReadFault => List::from_slice(alloc, b"cecil: read fault"),
+        Status::WriteFault => List::from_slice(alloc, b"cecil: write fault"),
+        Status::NoMemory => List::from_slice(alloc, b"cecil: no memory"),
+    }
+}
+
+/// The line of a file that could not be taken.
+fn file_line(alloc: Global, name: &[u8], cause: &FileCause) -> Result<Bytes, NoMemory>
+    ensures { IfOk result (λ line. line ≡ file_text name.now cause.now) }
+{
+    let said: &[u8] = match cause {
+        FileCause::Missing => b": missing",
+        FileCause::TooLong => b": too long",
+        FileCause::Refused(OpenRefusal::Pe(PeRefusal::NotThin)) => b": refused 14 NotThin",
+        FileCause::Refused(OpenRefusal::NoMemory) => return List::from_slice(
+            alloc,
+            b"cecil: no memory",
+        ),
+    };
+    let name = escape(alloc, name)?;
+    let mut line = List::from_slice(alloc, b"cecil: file ")?;
+    line.extend(name.as_slice())?;
+    line.extend(said)?;
+    Ok(line)
+}
