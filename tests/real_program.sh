@@ -1,0 +1,51 @@
+#!/usr/bin/env bash
+# What the real program answers where only a real file system and a real device can show it. Run it from anywhere; it ends with
+# 'N passed, M failed'. The gate does not need it.
+set -u
+
+here=$(cd "$(dirname "${BASH_SOURCE[0]}")/.." && pwd) || exit 1
+folder=$(mktemp -d) || exit 1
+trap 'rm -rf "$folder"' EXIT
+passed=0
+failed=0
+
+# expect NAME STATUS LINE [WORDS..]: the status, and the line on standard error
+expect() {
+    local name=$1 status=$2 line=$3 said got
+    shift 3
+    said=$("$here/cecil" -C "$folder" "$@" 2>&1 >"${output:-/dev/null}")
+    got=$?
+    if [ "$got" = "$status" ] && [ "$said" = "$line" ]; then
+        passed=$((passed + 1))
+    else
+        failed=$((failed + 1))
+        echo "$name: status $got, '$said'; wanted $status, '$line'"
+    fi
+}
+
+"$here/cecil" >/dev/null 2>&1 # builds it, where it is missing
+cp "$here/crates/cecil/data/small.dll" "$folder/small.dll"
+mkdir "$folder/folder"
+truncate -s $((2 ** 26 + 1)) "$folder/long.dll"
+truncate -s $((2 ** 26)) "$folder/whole.dll"
+cp "$folder/small.dll" "$folder/barred.dll"
+chmod 000 "$folder/barred.dll"
+
+usage='cecil: usage: dump FILE | show FILE TOKEN | run JOB | gen N'
+expect 'a dump' 0 '' dump small.dll
+expect 'no words' 2 "$usage"
+expect 'a word that is not UTF-8' 2 "$usage" dump $'\xff'
+expect 'a name with a slash' 2 "$usage" dump folder/small.dll
+expect 'a file that is not there' 4 'cecil: file none.dll: missing' dump none.dll
+expect 'a file past the limit' 4 'cecil: file long.dll: too long' dump long.dll
+expect 'a file of the limit that is no image' 4 'cecil: file whole.dll: refused 14 NotThin' dump whole.dll
+expect 'a folder in place of a file' 6 'cecil: read fault' dump folder
+output=/dev/full expect 'a full device' 7 'cecil: write fault' dump small.dll
+if [ "$(id -u)" = 0 ]; then
+    echo 'a file that may not be read: left out, since root may read it'
+else
+    expect 'a file that may not be read' 6 'cecil: read fault' dump barred.dll
+fi
+
+echo "$passed passed, $failed failed"
+[ "$failed" = 0 ]
