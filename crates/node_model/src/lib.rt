@@ -21,3 +21,6 @@ pub use query::Query;
 pub use reply::Reply;
 pub use row::{RowValue, Value};
 pub use slot::{Fault, FaultKind, Slot};
+
+#[cfg(test)]
+mod tests;
