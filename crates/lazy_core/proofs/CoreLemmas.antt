@@ -1,5 +1,5 @@
 -- Pushing a fill and its slot.
-use Rattle.std.proofs.Common.{◌≡◌, refl, sym, ◌∙◌, ap, subst, ℕ, Bool, true, false, List, [], ◌∷◌, ◌++◌, Option, Some, None, cond, if◌then◌else◌, ◌==◌, ◌&&◌, ◌||◌, not, suc, length, find, option_map, is_some, append-nil, append_assoc, arith}
+use Rattle.std.proofs.Common.{◌≡◌, refl, sym, ◌∙◌, ap, subst, ℕ, Bool, true, false, List, [], ◌∷◌, ◌++◌, Option, Some, None, cond, if◌then◌else◌, ◌||◌, suc, length, find, option_map, is_some, append-nil, append_assoc, arith}
 use Rattle.std.specs.List.{list_any}
 use Rattle.cil_base.specs.Token.{Token}
 use Rattle.node_model.specs.Edits.{edits}
@@ -8,8 +8,8 @@ use Rattle.node_model.specs.Held.{held}
 use Rattle.node_model.specs.Immediate.{read}
 use Rattle.node_model.specs.Keys.{is_row, same_key}
 use Rattle.node_model.specs.Legal.{LegalAfter, MayFollow}
-use Rattle.node_model.specs.Reach.{reach, fault_of, up_to_fault, reach_of, absent}
-use Rattle.node_model.specs.Replies.{fills, reply, row_reply, replied, first_fault, or_fault, value_reply}
+use Rattle.node_model.specs.Reach.{reach, fault_of}
+use Rattle.node_model.specs.Replies.{fills, reply, row_reply, replied, or_fault}
 use Rattle.node_model.specs.declared.entry.By.{By}
 use Rattle.node_model.specs.declared.entry.Entry.{Entry}
 use Rattle.node_model.specs.declared.entry.Entry.TheVariants.{Fill}
@@ -17,13 +17,12 @@ use Rattle.node_model.specs.declared.entry.Why.{Why}
 use Rattle.node_model.specs.declared.key.Key.{Key}
 use Rattle.node_model.specs.declared.key.Key.TheVariants as keys
 use Rattle.node_model.specs.declared.query.Query.TheVariants as queries
-use Rattle.node_model.specs.declared.reply.Reply.{Reply}
 use Rattle.node_model.specs.declared.reply.Reply.TheVariants as replies
 use Rattle.node_model.specs.declared.row.Value.TheVariants as values
 use Rattle.node_model.specs.declared.slot.Slot.{Slot}
 use Rattle.node_model.specs.declared.slot.Slot.TheVariants as slots
 use Rattle.lazy_core.specs.Slots.{Holds, kept, slot_of}
-use Rattle.lazy_core.specs.Steps.{peeked, peek_at}
+use Rattle.lazy_core.specs.Steps.{peeked}
 use Rattle.lazy_core.specs.declared.wanted.Peek.TheVariants.{Ready, Need}
 
 pub no_edits : (h : List Entry) → edits h ≡ []

@@ -1,2 +1,6 @@
+mod AnswerLemmas
 mod CoreLemmas
+mod LegalLemmas
+mod RunLemmas
+mod SlotLemmas
 mod WantedLemmas

@@ -1,21 +1,20 @@
 -- A key that is needed is wanted.
-use Rattle.std.proofs.Common.{◌≡◌, refl, sym, ◌∙◌, ap, subst, ℕ, Bool, true, false, List, [], ◌∷◌, length, take, ◌||◌, ◌≤◌, arith}
+use Rattle.std.proofs.Common.{◌≡◌, refl, sym, ◌∙◌, subst, ℕ, Bool, true, false, List, length, ◌||◌, arith}
 use Rattle.std.proofs.Math.Seq.{take-length}
 use Rattle.std.specs.List.{list_any}
 use Rattle.cil_base.specs.Token.{Token}
 use Rattle.node_model.specs.Edits.{edits}
 use Rattle.node_model.specs.Filled.{filled}
-use Rattle.node_model.specs.Keys.{is_key, is_row, same_key}
+use Rattle.node_model.specs.Keys.{is_row, same_key}
 use Rattle.node_model.specs.Legal.{WasWanted}
-use Rattle.node_model.specs.Reach.{reach, reach_why}
+use Rattle.node_model.specs.Reach.{reach_why}
 use Rattle.node_model.specs.declared.entry.Entry.{Entry}
 use Rattle.node_model.specs.declared.entry.Why.TheVariants as whys
 use Rattle.node_model.specs.declared.key.Key.{Key}
 use Rattle.node_model.specs.declared.key.Key.TheVariants as keys
-use Rattle.node_model.specs.declared.query.Query.{Query}
 use Rattle.node_model.specs.declared.query.Query.TheVariants as queries
 use Rattle.lazy_core.specs.Steps.{NeedIsWanted, peeked}
-use Rattle.lazy_core.specs.declared.wanted.Peek.TheVariants.{Ready, Need}
+use Rattle.lazy_core.specs.declared.wanted.Peek.TheVariants.{Need}
 use Rattle.lazy_core.proofs.CoreLemmas.{peeked_absent, peeked_filled, peeked_need, peeked_ready, reach_row, same_self}
 
 pub row_is_wanted : (b : List ℕ) (h : List Entry) (t : Token) → is_row b t ≡ true → filled b h (keys.Row t) ≡ false

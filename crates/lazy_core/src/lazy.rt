@@ -3,10 +3,10 @@ ghost use Rattle.node_model.specs.Keys.{is_row};
 ghost use Rattle.lazy_core.specs.Slots.{slot_of};
 ghost use Rattle.lazy_core.specs.Steps.{peeked};
 
-use crate::slots::{row_reply, slot_with};
+use crate::slots::{Slots, row_reply};
 use crate::wanted::Peek;
 use cil_base::{List, NoMemory, Token};
-use node_model::{Entry, Key, Query, Reply, Slot};
+use node_model::{Entry, Key, Query, Reply};
 use node_read::Image;
 use std::alloc::Global;
 use std::marker::Model;
@@ -17,7 +17,7 @@ use std::sync::Arc;
 #[derive(Drop)]
 pub struct Core {
     pub(crate) image: Arc<Image>,
-    pub(crate) slots: List<(Key, Slot)>,
+    pub(crate) slots: Slots,
     pub(crate) history: List<Entry>,
 }
 
@@ -41,7 +41,7 @@ impl Core {
     {
         Ok(Core {
             image,
-            slots: List::new(alloc),
+            slots: Slots::new(alloc),
             history: List::new(alloc),
         })
     }
@@ -76,7 +76,7 @@ impl Core {
             return Ok(Peek::Ready(Reply::Absent(token)));
         }
         let key = Key::Row(token);
-        match slot_with(self.slots.as_slice(), &key) {
+        match self.slots.get(&key) {
             Some(slot) => Ok(Peek::Ready(row_reply(slot)?)),
             None => Ok(Peek::Need(key)),
         }

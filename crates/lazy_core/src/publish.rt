@@ -5,7 +5,6 @@ ghost use Rattle.node_model.specs.Legal.{WasWanted};
 ghost use Rattle.lazy_core.specs.Steps.{history_after, published};
 
 use crate::lazy::Core;
-use crate::slots::slot_with;
 use crate::wanted::{Published, Wanted};
 use cil_base::NoMemory;
 use node_model::{Entry, Key, Slot};
@@ -16,7 +15,7 @@ impl Core {
     fn holds(&self, key: &Key) -> bool
         ensures { result ≡ filled self.now.0 self.now.1 key.now }
     {
-        slot_with(self.slots.as_slice(), key).is_some()
+        self.slots.get(key).is_some()
     }
 
     /// Fills a key that was wanted with what the file says there, and adds the entry of it: `Stored`. `Already` comes exactly
@@ -39,7 +38,7 @@ impl Core {
             key: wanted.key,
         };
         self.history.push(entry)?;
-        match self.slots.push((wanted.key, slot)) {
+        match self.slots.insert(wanted.key, slot) {
             Ok(()) => Ok(Published::Stored),
             Err(NoMemory) => {
                 self.history.pop();
