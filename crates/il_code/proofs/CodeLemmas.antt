@@ -1,5 +1,5 @@
 -- Instructions one after the other.
-use Rattle.std.proofs.Common.{◌≡◌, ◌==◌, ◌+◌, ◌*◌, ◌-◌, ◌<◌, ◌≤◌, ◌^◌, ◌++◌, ℕ, zero, suc, List, [], ◌∷◌, length, Bool, true, false, cond, Option, Some, None, refl, sym, ap, ◌∙◌, subst, arith, append_assoc, nat_lt, nat_le, get_or}
+use Rattle.std.proofs.Common.{◌≡◌, ◌==◌, ◌+◌, ◌*◌, ◌<◌, ◌≤◌, ◌++◌, ℕ, zero, suc, List, [], ◌∷◌, length, Bool, true, false, cond, Option, Some, None, refl, sym, ap, ◌∙◌, subst, arith, append_assoc, nat_lt, nat_le, get_or}
 use Rattle.std.specs.Prelude.{option_map}
 use Rattle.std.proofs.lemmas.List.{append-nil}
 use Rattle.std.proofs.lemmas.Bool.{lt-ltb}
@@ -8,7 +8,6 @@ use Rattle.byteorder.specs.Endian.{little_from}
 use Rattle.il_code.specs.declared.kind.OperandKind as k
 use Rattle.il_code.specs.declared.kind.OperandKind.TheVariants as kind
 use Rattle.il_code.specs.declared.operand.Operand.{Operand}
-use Rattle.il_code.specs.declared.operand.Operand.TheVariants as of
 use Rattle.il_code.specs.declared.instr.Instr.{Instr}
 use Rattle.il_code.specs.Kinds.{kind_of}
 use Rattle.il_code.specs.Numbers.{◌>>=◌, number_at, items_at}

@@ -1,8 +1,17 @@
 pub mod CodeLemmas
 pub mod ItemLemmas
+pub mod LayoutLemmas
+pub mod NameLemmas
 pub mod NumberingLaws
 pub mod NumberingLemmas
+pub mod ReadBackLemmas
+pub mod ReadBodyLemmas
+pub mod ReadCodeLemmas
+pub mod ReadSectionLemmas
+pub mod ReadWritableLemmas
 pub mod SectionLemmas
 pub mod SpellingLemmas
 pub mod StandardFacts
 pub mod TableFacts
+pub mod WritableLemmas
+pub mod WrittenLemmas

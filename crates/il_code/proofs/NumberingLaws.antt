@@ -1,5 +1,5 @@
 -- Numbers in place of places and back.
-use Rattle.std.proofs.Common.{◌≡◌, ◌==◌, ◌+◌, ◌-◌, ◌*◌, ◌<◌, ◌≤◌, ◌++◌, ℕ, zero, suc, List, [], ◌∷◌, length, map, get_or, Bool, true, false, cond, Option, Some, None, refl, sym, ap, ◌∙◌, subst, arith, nat_lt, append_assoc}
+use Rattle.std.proofs.Common.{◌≡◌, ◌==◌, ◌+◌, ◌<◌, ◌≤◌, ◌++◌, ℕ, suc, List, [], ◌∷◌, length, map, Bool, true, false, cond, Option, Some, None, refl, ap, ◌∙◌, subst, arith, nat_lt}
 use Rattle.std.specs.Prelude.{option_map}
 use Rattle.std.specs.List.{AllByRecursion}
 use Rattle.std.proofs.lemmas.Bool.{lt-ltb, ltb-true}
@@ -13,13 +13,9 @@ use Rattle.il_code.specs.declared.handler.Handler.{Handler}
 use Rattle.il_code.specs.Code.{instr_of, placed, placed_operand, TargetsBelow}
 use Rattle.il_code.specs.Numbers.{◌>>=◌}
 use Rattle.il_code.specs.Spelling.{placed_kind, placed_handler, FilterBelow, Bounded}
-use Rattle.il_code.specs.Numbering.{Rising, number_in, target_in, each, numbered, numbered_instr, numbered_kind, numbered_handler}
-use Rattle.il_code.proofs.CodeLemmas.{Came, came, Mapped, mapped, same_some}
+use Rattle.il_code.specs.Numbering.{place_in, Rising, number_in, target_in, each, numbered, numbered_instr, numbered_kind, numbered_handler}
+use Rattle.il_code.proofs.CodeLemmas.{came, mapped, same_some}
 use Rattle.il_code.proofs.NumberingLemmas.{number_in-is}
-
--- the place of a number
-abbrev pub place_in : List ℕ → ℕ → ℕ
-place_in ps t = get_or ps t 0
 
 -- a number that was found is that of the place
 pub number_in-at : (ps : List ℕ) (p i : ℕ) → number_in ps p ≡ Some i → (i < length ps) × (place_in ps i ≡ p)

@@ -1,17 +1,14 @@
 -- Places and numbers of instructions.
-use Rattle.std.proofs.Common.{◌≡◌, ◌==◌, ◌+◌, ◌-◌, ◌<◌, ◌≤◌, ◌++◌, ℕ, zero, suc, List, [], ◌∷◌, length, map, take, drop, get_or, set, Bool, true, false, cond, Option, Some, None, refl, sym, ap, ◌∙◌, subst, arith, nat_lt, eq-eqb, add-one, append_assoc}
+use Rattle.std.proofs.Common.{◌≡◌, ◌==◌, ◌+◌, ◌<◌, ◌≤◌, ◌++◌, ℕ, zero, suc, List, [], ◌∷◌, length, map, take, drop, get_or, set, false, Option, Some, None, refl, sym, ap, ◌∙◌, arith, eq-eqb, add-one, append_assoc}
 use Rattle.std.specs.Prelude.{option_map}
-use Rattle.std.specs.List.{slice_get, AllByRecursion, sum_by, range_with_len}
+use Rattle.std.specs.List.{slice_get, sum_by, range_with_len}
 use Rattle.std.proofs.Math.ListN.{length-set}
-use Rattle.std.proofs.lemmas.List.{append-nil, take_more_set, take-set, drop-set, drop-set-lt, take_more}
+use Rattle.std.proofs.lemmas.List.{append-nil, take_more_set, take-set, drop-set-lt, take_more}
 use Rattle.std.proofs.lemmas.List.Sums.{sum_by_push}
-use Rattle.std.proofs.lemmas.List.FromFn.{map-range_with_len_more, get_or-map-range_with_len, length-map-range_with_len}
-use Rattle.std.proofs.lemmas.Option.{slice_get_within}
-use Rattle.std.proofs.lemmas.Bool.{lt-ltb, le-ltb}
+use Rattle.std.proofs.lemmas.List.FromFn.{map-range_with_len_more}
 use Rattle.std.proofs.lemmas.Bool.Decides.{nat_tests}
 use Rattle.il_code.specs.declared.instr.Instr.{Instr}
 use Rattle.il_code.specs.Code.{at, size_of}
-use Rattle.il_code.specs.Numbers.{◌>>=◌}
 use Rattle.il_code.specs.Numbering.{places, Rising, number_in, each}
 
 -- the number of a place

@@ -1,5 +1,5 @@
 -- Sections one after the other.
-use Rattle.std.proofs.Common.{◌≡◌, ◌==◌, ◌+◌, ◌-◌, ◌*◌, ◌/◌, ◌<◌, ◌≤◌, ◌++◌, ℕ, zero, suc, List, [], ◌∷◌, length, Bool, true, false, not, cond, Option, Some, None, refl, sym, ap, ◌∙◌, subst, arith, append_assoc}
+use Rattle.std.proofs.Common.{◌≡◌, ◌+◌, ◌-◌, ◌*◌, ◌<◌, ◌≤◌, ◌++◌, ℕ, zero, suc, List, [], ◌∷◌, length, Bool, true, false, not, cond, Option, Some, None, refl, sym, ap, ◌∙◌, subst, arith, append_assoc}
 use Rattle.std.specs.Prelude.{option_map}
 use Rattle.std.specs.List.{flat_map}
 use Rattle.std.proofs.lemmas.List.{append-nil}
@@ -8,8 +8,8 @@ use Rattle.il_code.specs.declared.section.Section.{Section}
 use Rattle.il_code.specs.Numbers.{◌>>=◌, number_at, items_at}
 use Rattle.il_code.specs.Sections.{aligned, clause_at, clause_size, section_at, FollowedBy, Sections}
 use Rattle.il_code.specs.Numbering.{each, numbered_clause, numbered_handler, handlers_in, sections_in, after_front}
-use Rattle.il_code.proofs.CodeLemmas.{Came, came, Mapped, mapped, same_some, number_within}
-use Rattle.il_code.proofs.NumberingLaws.{each-append, Split, each-split}
+use Rattle.il_code.proofs.CodeLemmas.{came, mapped, same_some, number_within}
+use Rattle.il_code.proofs.NumberingLaws.{each-append, each-split}
 use Rattle.il_code.proofs.NumberingLemmas.{each-nil}
 
 -- the reading of sections, step by step

@@ -1,7 +1,6 @@
 -- What is read is spelled so, and what is spelled so is read.
-use Rattle.std.proofs.Common.{◌≡◌, ◌+◌, ◌*◌, ◌<◌, ◌≤◌, ◌^◌, ℕ, zero, suc, List, [], ◌∷◌, length, map, take, drop, get_or, Bool, true, false, cond, Option, Some, None, refl, sym, ap, ◌∙◌, subst, arith, add-one}
-use Rattle.std.specs.Prelude.{option_map}
-use Rattle.std.specs.List.{AllByRecursion, flat_map, sum_by, range_with_len}
+use Rattle.std.proofs.Common.{◌≡◌, ◌+◌, ◌*◌, ◌<◌, ◌≤◌, ◌^◌, ℕ, zero, suc, List, [], ◌∷◌, length, map, take, drop, Bool, true, false, cond, Option, Some, None, refl, sym, ap, ◌∙◌, subst, arith}
+use Rattle.std.specs.List.{AllByRecursion, flat_map, sum_by}
 use Rattle.std.proofs.lemmas.List.{length-map}
 use Rattle.std.proofs.lemmas.List.Sums.{sum_by-cons}
 use Rattle.std.proofs.lemmas.List.FromFn.{get_or-map-range_with_len, length-map-range_with_len}
@@ -18,13 +17,12 @@ use Rattle.cil_base.specs.Token.{Token}
 use Rattle.il_code.specs.Body.{Body}
 use Rattle.il_code.specs.Kinds.{kind_of}
 use Rattle.il_code.specs.Code.{at, code_size, size_of, width_of, width_in, instr_of, placed, placed_operand, Stand, TargetsBelow}
-use Rattle.il_code.specs.Sections.{header_at, Sections}
+use Rattle.il_code.specs.Sections.{header_at}
 use Rattle.il_code.specs.Spelling.{placed_kind, placed_handler, FilterBelow, Bounded, Handled, Spells}
-use Rattle.il_code.specs.Numbering.{places, Rising, each, numbered_instr, numbered_handler, sections_in, handlers_after}
+use Rattle.il_code.specs.Numbering.{place_in, places, Rising, each, numbered_instr, numbered_handler, sections_in, handlers_after}
 use Rattle.il_code.proofs.CodeLemmas.{same_some, size_of-pos}
-use Rattle.il_code.proofs.NumberingLemmas.{at-more}
-use Rattle.il_code.proofs.NumberingLaws.{place_in, each-found, each-only, instr-found, instr-only, handler-found, handler-only}
-use Rattle.il_code.proofs.SectionLemmas.{Found, sections-found, sections-only, sections-length}
+use Rattle.il_code.proofs.NumberingLaws.{each-found, each-only, instr-found, instr-only, handler-found, handler-only}
+use Rattle.il_code.proofs.SectionLemmas.{sections-found, sections-only, sections-length}
 
 -- places do not depend on what targets are
 
@@ -54,7 +52,7 @@ width-placed f kind.Switch (of.Text v) = refl
 width-placed f kind.Switch (of.Target t) = refl
 width-placed f kind.Switch (of.Switch ts) = ap (λ n. 4 + 4 * n) (length-map ts f)
 
-size-placed : (f : ℕ → ℕ) (x : Instr) → size_of (placed f x) ≡ size_of x
+pub size-placed : (f : ℕ → ℕ) (x : Instr) → size_of (placed f x) ≡ size_of x
 unfolding size_of
 size-placed f x = ap (λ n. code_size x.op + n) (sized (kind_of x.op))
   where
@@ -78,7 +76,7 @@ at-placed f code i = sum-placed f code i
 
 -- the places rise
 
-at-rises : (code : List Instr) (i j : ℕ) → i < j → j ≤ length code → at code i < at code j
+pub at-rises : (code : List Instr) (i j : ℕ) → i < j → j ≤ length code → at code i < at code j
 unfolding at
 at-rises [] i j h l = absurd (omega (arith, h, l))
 at-rises (x ∷ code) i zero h l = absurd (omega (arith, h))

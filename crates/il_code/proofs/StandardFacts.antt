@@ -1,12 +1,15 @@
 -- Values from the standard and worked by hand, so that a wrong constant or place in a definition does not check.
-use Rattle.std.proofs.Common.{◌≡◌, ◌^◌, List, [], ◌∷◌, false, Some, None, refl}
+use Rattle.std.proofs.Common.{◌≡◌, ◌^◌, [], ◌∷◌, true, false, Some, None, refl}
+use Rattle.std.specs.Prelude.{codes}
 use Rattle.cil_base.specs.Token.{root}
 use Rattle.il_code.specs.declared.kind.OperandKind.TheVariants as kind
 use Rattle.il_code.specs.declared.operand.Operand.TheVariants as of
-use Rattle.il_code.specs.declared.header.Header.{Header}
 use Rattle.il_code.specs.Kinds.{kind_of}
 use Rattle.il_code.specs.Numbers.{number_at, target_at, within}
-use Rattle.il_code.specs.Code.{instr_of, code_at, code_size, operand_at, instr_at}
+use Rattle.il_code.specs.Code.{at, instr_of, code_at, code_size, size_of, operand_at, instr_at}
+use Rattle.il_code.specs.Names.{name_of}
+use Rattle.il_code.specs.Layout.{layout, laid, header_bytes, code_bytes, instr_bytes, op_bytes, operand_bytes, section_bytes, clause_bytes}
+use Rattle.il_code.specs.Refusal.{is_past}
 use Rattle.il_code.specs.Sections.{tiny, header_at, aligned}
 
 pub leave-is_long : kind_of 0xDD ≡ Some kind.Branch
@@ -45,3 +48,33 @@ branch_FE-is_back_by_two = refl
 pub section_behind_18-stands_at_20 : aligned 18 ≡ 20
 unfolding aligned
 section_behind_18-stands_at_20 = refl
+
+-- `ret` alone is written behind a header of one byte
+pub ret-is_written : layout (record { max_stack = 8; init_locals = false; locals = root; code = instr_of 0x2A of.None ∷ []; handlers = [] }) [] ≡ 0x06 ∷ 0x2A ∷ []
+unfolding layout laid header_bytes code_bytes instr_bytes op_bytes operand_bytes kind_of at size_of code_size
+ret-is_written = refl
+
+-- with a stack of two it has a header of twelve bytes
+pub ret-of_two-is_written : layout (record { max_stack = 2; init_locals = false; locals = root; code = instr_of 0x2A of.None ∷ []; handlers = [] }) [] ≡ 0x03 ∷ 0x30 ∷ 0x02 ∷ 0 ∷ 1 ∷ 0 ∷ 0 ∷ 0 ∷ 0 ∷ 0 ∷ 0 ∷ 0 ∷ 0x2A ∷ []
+unfolding layout laid header_bytes code_bytes instr_bytes op_bytes operand_bytes kind_of at size_of code_size
+ret-of_two-is_written = refl
+
+-- a branch to itself goes back by two
+pub branch-to_itself-is_written : layout (record { max_stack = 8; init_locals = false; locals = root; code = instr_of 0x2B (of.Target 0) ∷ []; handlers = [] }) [] ≡ 0x0A ∷ 0x2B ∷ 0xFE ∷ []
+unfolding layout laid header_bytes code_bytes instr_bytes op_bytes operand_bytes kind_of at size_of code_size
+branch-to_itself-is_written = refl
+
+-- a small section behind 18 bytes, with a clause of a type
+pub section-is_written : section_bytes (record { flags = 0; try_offset = 0; try_len = 2; offset = 2; len = 3; last = 0x01000001 } ∷ []) 18 ≡ 0 ∷ 0 ∷ 0x01 ∷ 0x10 ∷ 0 ∷ 0 ∷ 0 ∷ 0 ∷ 0 ∷ 0 ∷ 2 ∷ 2 ∷ 0 ∷ 3 ∷ 1 ∷ 0 ∷ 0 ∷ 1 ∷ []
+unfolding section_bytes aligned clause_bytes
+section-is_written = refl
+
+pub distance_129-is_past : is_past 2 131 ≡ true
+distance_129-is_past = refl
+
+pub distance_127-is_not : is_past 2 129 ≡ false
+distance_127-is_not = refl
+
+pub leave-is_named : name_of 0xDD ≡ Some (codes "leave")
+unfolding name_of
+leave-is_named = refl

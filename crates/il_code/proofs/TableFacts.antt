@@ -1,5 +1,5 @@
 -- The table of instructions says what the standard says.
-use Rattle.std.proofs.Common.{◌≡◌, ◌<◌, ◌≤◌, ◌-◌, ◌&&◌, ℕ, List, [], ◌∷◌, Option, None, Bool, true, false, refl, sym, ap, ◌∙◌, arith, map, get_or, option_map, length, nat_lt, nat_le, inl, inr}
+use Rattle.std.proofs.Common.{◌≡◌, ◌<◌, ◌≤◌, ◌-◌, ◌&&◌, ℕ, List, [], ◌∷◌, None, true, false, refl, sym, ap, ◌∙◌, arith, map, get_or, nat_lt, inl, inr}
 use Rattle.std.specs.List.{range_with_len, list_all}
 use Rattle.std.proofs.lemmas.List.{get_or_past}
 use Rattle.std.proofs.lemmas.List.FromFn.{get_or-map-range_with_len}

@@ -1,5 +1,5 @@
 -- Instructions one after the other: ECMA-335 III.1.7 and VI.C.2.
-use Rattle.std.specs.Prelude.{◌≡◌, ◌==◌, ℕ, zero, suc, ◌+◌, ◌*◌, ◌/◌, ◌%◌, ◌^◌, ◌<◌, List, [], ◌∷◌, length, map, take, Option, Some, None, nat_lt, if◌then◌else◌, option_map}
+use Rattle.std.specs.Prelude.{◌≡◌, ◌==◌, ℕ, ◌+◌, ◌*◌, ◌/◌, ◌%◌, ◌^◌, ◌<◌, List, [], ◌∷◌, length, map, take, Option, Some, None, nat_lt, if◌then◌else◌, option_map}
 use Rattle.std.specs.Int.{cast_signed, w8, w32, w64}
 use Rattle.std.specs.List.{AllByRecursion, sum_by, range_with_len}
 use Rattle.byteorder.specs.Endian.{little_from}

@@ -1,5 +1,5 @@
 -- Which operand follows each code of an instruction: ECMA-335 III and VI.C.2.
-use Rattle.std.specs.Prelude.{ℕ, ◌-◌, Bool, ◌&&◌, List, [], ◌∷◌, Option, None, nat_lt, nat_le, if◌then◌else◌, option_map}
+use Rattle.std.specs.Prelude.{ℕ, ◌-◌, ◌&&◌, List, [], ◌∷◌, Option, None, nat_lt, nat_le, if◌then◌else◌, option_map}
 use Rattle.std.specs.List.{find}
 use Rattle.il_code.specs.declared.kind.OperandKind.{OperandKind}
 use Rattle.il_code.specs.declared.kind.OperandKind.TheVariants.{NoOperand, U8, U16, I8, I32, I64, R4, R8, Token, Text, ShortBranch, Branch, Switch}

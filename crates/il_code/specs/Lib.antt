@@ -1,7 +1,12 @@
 pub mod Body
 pub mod Code
 pub mod Kinds
+pub mod Layout
+pub mod Names
 pub mod Numbering
 pub mod Numbers
+pub mod Ranges
+pub mod Refusal
 pub mod Sections
 pub mod Spelling
+pub mod Writable

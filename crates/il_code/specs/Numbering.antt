@@ -5,7 +5,7 @@ use Rattle.il_code.specs.declared.operand.Operand.{Operand}
 use Rattle.il_code.specs.declared.operand.Operand.TheVariants as of
 use Rattle.il_code.specs.declared.instr.Instr.{Instr}
 use Rattle.il_code.specs.declared.handler.HandlerKind.{HandlerKind}
-use Rattle.il_code.specs.declared.handler.HandlerKind.TheVariants.{Typed, Filter, Finally, Fault}
+use Rattle.il_code.specs.declared.handler.HandlerKind.TheVariants.{Filter}
 use Rattle.il_code.specs.declared.handler.Handler.{Handler}
 use Rattle.il_code.specs.Code.{at, instr_of}
 use Rattle.il_code.specs.declared.header.Header.{Header}
@@ -16,6 +16,10 @@ use Rattle.il_code.specs.Sections.{aligned, clause_at, clause_size, section_at}
 -- the places of the instructions, and the end of the last
 unfoldable pub places : List Instr → List ℕ
 places code = map (at code) (range_with_len 0 (length code + 1))
+
+-- the place of a number
+abbrev pub place_in : List ℕ → ℕ → ℕ
+place_in ps t = get_or ps t 0
 
 -- each place is below those after it
 abbrev pub Rising : List ℕ → Type 0

@@ -1,6 +1,6 @@
 -- Headers, sections and clauses of a body, by places: ECMA-335 II.25.4.
-use Rattle.std.specs.Prelude.{◌≡◌, ◌==◌, ℕ, ◌+◌, ◌*◌, ◌/◌, ◌%◌, ◌^◌, ◌≤◌, ◌<◌, Bool, true, false, List, [], ◌∷◌, length, Option, Some, None, if◌then◌else◌, option_map}
-use Rattle.cil_base.specs.Token.{Token, root}
+use Rattle.std.specs.Prelude.{◌≡◌, ◌==◌, ℕ, ◌+◌, ◌*◌, ◌/◌, ◌%◌, ◌^◌, Bool, true, false, List, [], ◌∷◌, Option, Some, None, if◌then◌else◌, option_map}
+use Rattle.cil_base.specs.Token.{root}
 use Rattle.il_code.specs.declared.handler.HandlerKind.{HandlerKind}
 use Rattle.il_code.specs.declared.handler.HandlerKind.TheVariants.{Typed, Filter, Finally, Fault}
 use Rattle.il_code.specs.declared.handler.Handler.{Handler}

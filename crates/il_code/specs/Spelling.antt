@@ -1,8 +1,8 @@
 -- Which bytes spell a method's body: ECMA-335 II.25.4 and III.
-use Rattle.std.specs.Prelude.{◌≡◌, ℕ, ◌+◌, ◌^◌, ◌≤◌, ◌<◌, Bool, true, false, List, [], ◌∷◌, length, map, take, drop, Option, Some}
+use Rattle.std.specs.Prelude.{◌≡◌, ℕ, ◌+◌, ◌^◌, ◌≤◌, ◌<◌, Bool, true, false, List, [], length, map, take, drop, Some}
 use Rattle.std.specs.List.{AllByRecursion, flat_map}
 use Rattle.il_code.specs.declared.handler.HandlerKind.{HandlerKind}
-use Rattle.il_code.specs.declared.handler.HandlerKind.TheVariants.{Typed, Filter, Finally, Fault}
+use Rattle.il_code.specs.declared.handler.HandlerKind.TheVariants.{Filter}
 use Rattle.il_code.specs.declared.handler.Handler.{Handler}
 use Rattle.il_code.specs.Body.{Body}
 use Rattle.il_code.specs.Code.{at, placed, Stand, TargetsBelow}

@@ -3,6 +3,7 @@ ghost use Rattle.il_code.specs.Body.{Body as Value};
 ghost use Rattle.il_code.specs.Numbering.{Rising, handlers_after};
 ghost use Rattle.il_code.specs.Sections.{header_at};
 ghost use Rattle.il_code.specs.Spelling.{Spells};
+ghost use Rattle.il_code.specs.Writable.{Writable};
 
 use crate::body::Body;
 use crate::handler::Handler;
@@ -16,10 +17,11 @@ use std::alloc::Global;
 /// The body that the front of the bytes spells, with its texts from the heap #US; what follows the body is not read. None exactly
 /// where no body is spelled: a bad header, an unknown code, a code that ends inside an instruction, a target or the start of a
 /// filter that is no instruction's first byte, another bound that is neither that nor the end, a text that is not there, another
-/// kind of section, other flags of a clause, missing bytes (ECMA-335 II.25.4).
+/// kind of section, other flags of a clause, missing bytes (ECMA-335 II.25.4). What is read can be written by `encode_body`.
 pub fn decode_body(alloc: Global, bytes: &[u8], users: &[u8]) -> Result<Option<Body>, NoMemory>
     ensures found { IfOk result (λ body. IfSome body (λ v. Spells v bytes.now users.now)) }
     ensures only { IfOk result (λ body. (v : Value) → Spells v bytes.now users.now → body ≡ Some v) }
+    ensures writable { IfOk result (λ body. IfSome body Writable) }
 {
     let Some(header) = read_header(bytes) else {
         return Ok(None);

@@ -32,6 +32,9 @@ fn kind_in(table: &[Option<OperandKind>], index: usize) -> Option<OperandKind>
 mod tests {
     use super::*;
     use crate::decode::decode_body;
+    use crate::encode::encode_body;
+    use crate::refusal::BodyRefusal;
+    use crate::writable::is_writable;
     use cil_base::{List, NoMemory};
     use std::alloc::Global;
     use std::test::Fail;
@@ -72,8 +75,30 @@ mod tests {
         }
     }
 
+    /// Whether the body of a code is written back with the same instructions, behind a header of one byte.
+    fn is_written_back(alloc: Global, op: u16, kind: OperandKind) -> Result<bool, BodyRefusal> {
+        let bytes = body_of(alloc, op, kind)?;
+        let Some(body) = decode_body(alloc, bytes.as_slice(), &[0x00])? else {
+            return Ok(false);
+        };
+        let mut texts = List::new(alloc);
+        if kind == OperandKind::Text {
+            texts.push(0x7000_0000)?;
+        }
+        if !is_writable(&body, &texts) {
+            return Ok(false);
+        }
+        let written = encode_body(alloc, &body, &texts)?;
+        if bytes.len() < 12 || written.is_empty() {
+            return Ok(false);
+        }
+        let code = &bytes.as_slice()[12..];
+        let back = &written.as_slice()[1..];
+        Ok(code == back)
+    }
+
     #[test]
-    fn every_instruction_of_the_table_is_read(rt: HostRuntime) -> Result<(), Fail> {
+    fn every_instruction_of_the_table_is_read_and_written(rt: HostRuntime) -> Result<(), Fail> {
         let mut known: u32 = 0;
         for op in 0..=0xFFFF {
             let Some(kind) = operand_kind(op) else {
@@ -81,6 +106,7 @@ mod tests {
             };
             known = known.saturating_add(1);
             assert_eq!(rt; first_of(rt.alloc(), op, kind)?, Some(op), "of {op}");
+            assert_eq!(rt; is_written_back(rt.alloc(), op, kind), Ok(true), "of {op}");
         }
         assert_eq!(rt; known, 219, "instructions");
         Ok(())

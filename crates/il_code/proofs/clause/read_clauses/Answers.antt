@@ -1,4 +1,4 @@
-use Rattle.std.proofs.Common.{◌≡◌, ◌+◌, ◌*◌, ◌-◌, sym, ap, ◌∙◌, arith}
+use Rattle.std.proofs.Common.{◌≡◌, ◌+◌, ◌*◌, ◌-◌, sym, ◌∙◌, arith}
 use Rattle.il_code.specs.Sections.{clause_size}
 use Rattle.il_code.specs.Numbering.{numbered_clause, handlers_in}
 use Rattle.il_code.proofs.ItemLemmas.{items-added, items-missed, items-over}

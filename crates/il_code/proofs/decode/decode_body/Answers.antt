@@ -1,10 +1,11 @@
-use Rattle.std.proofs.Common.{◌≡◌, ◌+◌, ◌<◌, ◌≤◌, List, length, Option, Some, None, refl, sym, ap, ◌∙◌, subst, arith}
+use Rattle.std.proofs.Common.{◌≡◌, ◌≤◌, List, length, Option, Some, sym, ap, ◌∙◌, subst, arith}
 use Rattle.std.specs.Prelude.{IfSome}
 use Rattle.il_code.specs.declared.instr.Instr.{Instr}
 use Rattle.il_code.specs.Code.{Stand}
 use Rattle.il_code.specs.Numbering.{places, Rising, each, numbered_instr, handlers_after}
 use Rattle.il_code.proofs.CodeLemmas.{same_some}
-use Rattle.il_code.proofs.SpellingLemmas.{Facts, known-of, found-of, is-of, made-length, none-some}
+use Rattle.il_code.proofs.SpellingLemmas.{known-of, found-of, is-of, made-length, none-some}
+use Rattle.il_code.proofs.ReadWritableLemmas.{spelled-writable}
 use Rattle.il_code.proofs.decode.decode_body.Goals as goal
 
 pub places_of-requires : goal.places_of-requires
@@ -101,3 +102,6 @@ returns-clause-only c = λ v spelled.
       found = subst (λ (o : Option (List Instr)). IfSome o (λ xs. Stand c.args.users.now c.in-Some-code_of.code.now 0 xs)) c.in-Some-2.is c.in_ok-raw.ensures.found;
       only = λ xs s. sym c.in-Some-2.is ∙ c.in_ok-raw.ensures.only xs s;
     }) made (handled ∙ c.in-Some-3.is) v spelled)
+
+pub returns-clause-writable : goal.returns-clause-writable
+returns-clause-writable c = spelled-writable _ c.args.bytes.now c.args.users.now (returns-clause-found c)

@@ -1,5 +1,4 @@
-use Rattle.std.proofs.Common.{◌≡◌, ◌+◌, ◌-◌, ◌*◌, ◌<◌, ◌≤◌, length, sym, ap, ◌∙◌, arith}
-use Rattle.il_code.specs.Sections.{clause_size}
+use Rattle.std.proofs.Common.{◌≡◌, ◌+◌, ◌-◌, ◌*◌, ◌≤◌, length, sym, ap, ◌∙◌, arith}
 use Rattle.il_code.proofs.SectionLemmas.{sections-over, sections-no_head, sections-no_clauses, sections-last, sections-more, clause_size-upto, bounded, flag-off, flag-on}
 use Rattle.il_code.proofs.handlers.read_sections.Goals as goal
 

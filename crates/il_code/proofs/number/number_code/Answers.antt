@@ -1,4 +1,4 @@
-use Rattle.std.proofs.Common.{sym, ap, ◌∙◌, arith}
+use Rattle.std.proofs.Common.{sym}
 use Rattle.il_code.specs.Numbering.{numbered_instr}
 use Rattle.il_code.proofs.NumberingLemmas.{replaced-start, replaced-more, replaced-stop, replaced-over}
 use Rattle.il_code.proofs.number.number_code.Goals as goal

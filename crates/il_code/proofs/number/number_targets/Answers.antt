@@ -1,4 +1,4 @@
-use Rattle.std.proofs.Common.{sym, ap, ◌∙◌, arith}
+use Rattle.std.proofs.Common.{sym}
 use Rattle.il_code.specs.Numbering.{target_in}
 use Rattle.il_code.proofs.NumberingLemmas.{replaced-start, replaced-more, replaced-stop, replaced-over}
 use Rattle.il_code.proofs.number.number_targets.Goals as goal

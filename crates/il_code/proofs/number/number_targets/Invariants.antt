@@ -1,4 +1,3 @@
-use Rattle.std.proofs.Common.{length}
 use Rattle.il_code.specs.Numbering.{target_in}
 use Rattle.il_code.proofs.NumberingLemmas.{Replaced}
 use Rattle.il_code.proofs.number.number_targets.Given as goal

@@ -1,4 +1,4 @@
-use Rattle.std.proofs.Common.{sym, ◌∙◌, arith}
+use Rattle.std.proofs.Common.{sym, ◌∙◌}
 use Rattle.il_code.proofs.TableFacts.{one_byte_kind, no_kind, two_byte_kind}
 use Rattle.il_code.proofs.op.operand_kind.Goals as goal
 

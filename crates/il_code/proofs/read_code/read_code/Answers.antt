@@ -1,6 +1,5 @@
-use Rattle.std.proofs.Common.{◌≡◌, ◌≤◌, ◌<◌, ◌+◌, length, Some, None, sym, ap, ◌∙◌, arith}
-use Rattle.il_code.specs.Code.{instr_at, size_of}
-use Rattle.il_code.proofs.CodeLemmas.{IsBytes, instr_within, size_of-pos, read-more, read-stop, read-over, stand-length}
+use Rattle.std.proofs.Common.{Some, sym, ap, ◌∙◌, arith}
+use Rattle.il_code.proofs.CodeLemmas.{instr_within, size_of-pos, read-more, read-stop, read-over, stand-length}
 use Rattle.il_code.proofs.read_code.read_code.Goals as goal
 
 pub returns-in_default-clause-only : goal.returns-in_default-clause-only
