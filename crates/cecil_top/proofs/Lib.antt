@@ -1,6 +1,6 @@
-mod Bits
-mod CellLemmas
+mod AskLemmas
+mod CellsLemmas
 mod DumpLemmas
-mod ReplyLemmas
+mod NameLemmas
 mod StandardFacts
-mod ThinRows
+mod ThinLemmas

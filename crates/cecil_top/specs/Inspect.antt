@@ -1,5 +1,5 @@
 -- The answers of a run and their causes, by what the folder and the outlet tell.
-use Rattle.std.specs.Prelude.{◌≡◌, ◌⊎◌, ℕ, ◌^◌, ◌++◌, List, Option, Some, None, length, nat_lt, map, string_bytes, take, if◌then◌else◌, true, false, String}
+use Rattle.std.specs.Prelude.{◌≡◌, ◌⊎◌, ℕ, ◌^◌, ◌++◌, List, Option, Some, None, length, nat_lt, take, if◌then◌else◌, true}
 use Rattle.cil_outside.specs.Folder.{content_of}
 use Rattle.cil_outside.specs.declared.files.NamedFile.{NamedFile}
 use Rattle.pe_image.specs.Thin.{is_thin}
@@ -8,7 +8,7 @@ use Rattle.cecil_top.specs.Dump.{dump}
 use Rattle.cecil_top.specs.declared.status.Status.{Status}
 use Rattle.cecil_top.specs.declared.status.Status.TheVariants as ends
 use Rattle.cecil_top.specs.declared.status.FileCause.TheVariants.{Missing, TooLong, Refused}
-use Rattle.cecil_top.specs.declared.status.OpenRefusal.TheVariants as opens
+use Rattle.node_read.specs.declared.image.OpenRefusal.TheVariants as opens
 
 -- what a file calls for where nothing fails: it is missing, it passes 2^26 bytes, it is not thin, or all is done
 abbrev pub status_for : Option (List ℕ) → List ℕ → Status

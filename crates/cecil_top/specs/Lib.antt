@@ -1,12 +1,7 @@
-pub mod Cells
-pub mod Columns
+pub mod Texts
 pub mod Dump
-pub mod Heaps
+pub mod Asked
 pub mod Inspect
-pub mod Rows
-pub mod Shown
 pub mod Statuses
 pub mod Steps
-pub mod Streams
-pub mod Texts
 pub mod Words

@@ -5,7 +5,7 @@ use Rattle.cecil_top.specs.declared.status.Status.{Status}
 use Rattle.cecil_top.specs.declared.status.Status.TheVariants.{Ok, Usage, File, ReadFault, WriteFault, NoMemory}
 use Rattle.cecil_top.specs.declared.status.FileCause.{FileCause}
 use Rattle.cecil_top.specs.declared.status.FileCause.TheVariants.{Missing, TooLong, Refused}
-use Rattle.cecil_top.specs.declared.status.OpenRefusal.TheVariants as open_fails
+use Rattle.node_read.specs.declared.image.OpenRefusal.TheVariants as open_fails
 
 abbrev pub number_of : Status → ℕ
 number_of Ok = 0

@@ -1,10 +1,9 @@
 -- The two halves of a run: making the dump of a file, and writing it.
 use Rattle.std.specs.Prelude.{◌≡◌, ℕ, ◌^◌, ◌++◌, List, Option, Some, None, length, nat_lt, take, true, false}
-use Rattle.cil_outside.specs.Folder.{content_of}
 use Rattle.cil_outside.specs.declared.files.NamedFile.{NamedFile}
 use Rattle.pe_image.specs.Thin.{is_thin}
 use Rattle.cecil_top.specs.Dump.{dump}
-use Rattle.cecil_top.specs.Inspect.{Told, Untold, NoFile, Holds, told, Answers}
+use Rattle.cecil_top.specs.Inspect.{Told, Untold, NoFile, Holds, Answers}
 use Rattle.cecil_top.specs.declared.status.Status.{Status}
 use Rattle.cecil_top.specs.declared.status.Status.TheVariants as ends
 

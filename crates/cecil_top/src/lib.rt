@@ -2,20 +2,18 @@
 //! `dump FILE` print the rows of the tables Module and TypeDef (ECMA-335 II.22.30, II.22.37) of an image, one line each.
 #![tactic(auto)]
 
+mod ask;
+mod cell_name;
 mod dump;
-mod extends;
-mod heaps;
-mod number;
 mod reply;
-mod rows;
 mod run;
 mod status;
-mod streams;
 mod text;
 mod words;
 
+pub use node_read::OpenRefusal;
 pub use run::inspect;
-pub use status::{FileCause, OpenRefusal, Status, status_line};
+pub use status::{FileCause, Status, status_line};
 
 #[cfg(test)]
 mod tests;

@@ -1,15 +1,15 @@
 ghost use Rattle.std.specs.Prelude.{◌≡◌, ◌⊎◌, ◌↔◌, Err, IfErr, IfOk, IfSome, None, Some, map, string_bytes};
 ghost use Rattle.cil_outside.specs.Causes.{Rose};
-ghost use Rattle.cecil_top.specs.Dump.{thin_dump};
 ghost use Rattle.cecil_top.specs.Inspect.{Answers, Completes, Writes, held, told};
 ghost use Rattle.cecil_top.specs.Steps.{Ends, IsDump, Sends};
 ghost use Rattle.cecil_top.specs.Words.{file_name};
 
 use crate::dump::dump;
-use crate::status::{FileCause, OpenRefusal, Status};
+use crate::status::{FileCause, Status};
 use crate::words::file_name;
 use cil_base::{Bytes, List, NoMemory};
 use cil_outside::{Folder, Got, Outlet, Sent};
+use node_read::OpenRefusal;
 use pe_image::PeRefusal;
 use std::alloc::Global;
 
@@ -39,14 +39,14 @@ fn prepare<F: Folder>(alloc: Global, folder: &mut F, name: &str) -> Result<Bytes
         Ok(Got::Failed) => return Err(Status::ReadFault),
         Err(NoMemory) => return Err(Status::NoMemory),
     };
-    match dump(alloc, bytes.as_slice()) {
-        Ok(Some(text)) => Ok(text),
-        Ok(None) => Err(refusal(
+    match dump(alloc, bytes.into_vec()) {
+        Ok(text) => Ok(text),
+        Err(OpenRefusal::Pe(PeRefusal::NotThin)) => Err(refusal(
             alloc,
             name,
             FileCause::Refused(OpenRefusal::Pe(PeRefusal::NotThin)),
         )),
-        Err(NoMemory) => Err(Status::NoMemory),
+        Err(OpenRefusal::NoMemory) => Err(Status::NoMemory),
     }
 }
 

@@ -2,6 +2,7 @@ ghost use Rattle.std.specs.Prelude.{◌≡◌, ◌++◌, IfOk, OnOk};
 ghost use Rattle.cecil_top.specs.Statuses.{number_of, status_text, file_text, cause_text};
 
 use cil_base::{Bytes, List, NoMemory, escape};
+use node_read::OpenRefusal;
 use pe_image::PeRefusal;
 use std::alloc::Global;
 
@@ -31,13 +32,6 @@ pub enum FileCause {
     TooLong,
     /// The file is no image that is read here.
     Refused(OpenRefusal),
-}
-
-/// Why an image was not opened.
-#[derive(Clone, Copy, Debug, PartialEq, Eq)]
-pub enum OpenRefusal {
-    Pe(PeRefusal),
-    NoMemory,
 }
 
 impl Status {

@@ -1,9 +1,7 @@
 use super::*;
-use crate::dump::dump;
 use cil_base::List;
 use cil_outside::{Folder, MemoryOutlet, NamedFile, Outlet, SoundFolder, SoundOutlet, TableFolder};
 use std::alloc::Global;
-use std::process::Abort;
 use std::test::Fail;
 
 /// The places and bytes of the small image; all others of its 1,024 are zero.
@@ -226,60 +224,5 @@ fn a_read_or_a_write_that_fails_is_a_fault(rt: HostRuntime) -> Result<(), Fail> 
     );
     assert_eq!(rt; out.written().len(), 90);
     assert!(rt; MODULE.as_bytes().starts_with(out.written()));
-    Ok(())
-}
-
-/// Goes on with a digest (64-bit FNV-1a) by the status and the text of a run over these bytes. The text is that of the plain
-/// program, which is proved to give what the definition says.
-fn digest<R: Abort>(rt: &R, alloc: Global, sum: u64, image: Vec<u8>) -> Result<u64, Fail> {
-    let plain = dump(alloc, image.as_slice())?;
-    let name = List::from_slice(alloc, b"small.dll")?;
-    let mut files = Vec::new(alloc);
-    files.push(NamedFile {
-        name,
-        bytes: List::from_vec(image),
-    })?;
-    let mut folder = SoundFolder::new(files);
-    let mut out = SoundOutlet::new(alloc);
-    let status = run(alloc, &["dump", "small.dll"], &mut folder, &mut out)?;
-    match &plain {
-        Some(text) => assert_eq!(rt; out.written(), text.as_slice(), "as defined"),
-        None => assert!(rt; out.written().is_empty(), "no text of what is not thin"),
-    }
-    Ok(
-        out.written()
-            .iter()
-            .fold(step(sum, status.number()), |sum, byte| step(sum, *byte)),
-    )
-}
-
-fn step(sum: u64, byte: u8) -> u64 {
-    (sum ^ u64::from(byte)).wrapping_mul(0x0000_0100_0000_01b3)
-}
-
-/// The digests are those of a plain reading of the format that tests/every_byte.py does by itself.
-#[test]
-fn each_cut_and_each_byte_answer_as_a_plain_reading(rt: HostRuntime) -> Result<(), Fail> {
-    let alloc = rt.alloc();
-    let base = small(alloc)?;
-    let mut sum = 0xcbf2_9ce4_8422_2325;
-    for length in 0..=1024 {
-        let mut image = Vec::from_slice(alloc, base.as_slice())?;
-        image.truncate(length);
-        sum = digest(&rt, alloc, sum, image)?;
-    }
-    assert_eq!(rt; sum, 0x7212_a8ce_1a25_0e96, "cut to each length");
-    for place in 0..1024 {
-        for byte in [0x00, 0x01, 0x7f, 0x80, 0xff] {
-            let mut image = Vec::from_slice(alloc, base.as_slice())?;
-            put(&mut image, place, &[byte]);
-            sum = digest(&rt, alloc, sum, image)?;
-        }
-    }
-    assert_eq!(rt;
-        sum,
-        0x8232_2bfd_78ae_8c26,
-        "each byte set to each of five values"
-    );
     Ok(())
 }

@@ -1,14 +1,10 @@
-ghost use Rattle.std.specs.Prelude.{◌≡◌, ◌<◌, ◌^◌, ◌++◌, [], OnOk, unwrap_or};
+ghost use Rattle.std.specs.Prelude.{◌≡◌, ◌<◌, ◌++◌, OnOk};
 ghost use Rattle.std.specs.Fmt.{decimal};
 ghost use Rattle.cil_base.specs.Escape.{hex_pair, lower_hex};
-ghost use Rattle.uuid.specs.Text.{hyphenated_text, lower};
-ghost use Rattle.uuid.specs.Parts.{swap_fields};
-ghost use Rattle.cecil_top.specs.Shown.{IsRow, type_at_text};
-ghost use Rattle.cecil_top.specs.Texts.{token_text, quoted, guid_text};
+ghost use Rattle.cecil_top.specs.Texts.{cell_text, guid_text, quoted, token_text};
 
-use crate::extends::TypeAt;
-use crate::heaps::GuidAt;
-use cil_base::{Bytes, NoMemory, escape};
+use cil_base::{Bytes, NoMemory, Token, escape};
+use node_model::Cell;
 use uuid::Uuid;
 
 /// Adds the two lower-case hex digits of a byte.
@@ -31,18 +27,18 @@ fn lower_hex(value: u8) -> u8
 }
 
 /// Adds a token: two hex digits for the table and six for the row.
-pub(crate) fn add_token(text: &mut Bytes, table: u8, rid: u32) -> Result<(), NoMemory>
-    requires { rid < 2 ^ 24 }
-    ensures { OnOk result (text.new ≡ text.old ++ token_text table rid) }
+pub(crate) fn add_token(text: &mut Bytes, token: Token) -> Result<(), NoMemory>
+    ensures { OnOk result (text.new ≡ text.old ++ token_text token.table token.rid) }
 {
-    add_hex_pair(text, table)?;
+    let rid = token.rid;
+    add_hex_pair(text, token.table)?;
     add_hex_pair(text, (rid / 0x10000) as u8)?;
     add_hex_pair(text, (rid / 0x100 % 0x100) as u8)?;
     add_hex_pair(text, (rid % 0x100) as u8)
 }
 
 /// Adds a number in decimal.
-pub(crate) fn add_decimal(text: &mut Bytes, number: u32) -> Result<(), NoMemory>
+pub(crate) fn add_decimal(text: &mut Bytes, number: u64) -> Result<(), NoMemory>
     ensures { OnOk result (text.new ≡ text.old ++ decimal number) }
 {
     let digits = format!(in text.allocator(); "{number}")?;
@@ -50,7 +46,7 @@ pub(crate) fn add_decimal(text: &mut Bytes, number: u32) -> Result<(), NoMemory>
 }
 
 /// Adds a text, escaped and in quotes.
-pub(crate) fn add_quoted(text: &mut Bytes, bytes: &[u8]) -> Result<(), NoMemory>
+fn add_quoted(text: &mut Bytes, bytes: &[u8]) -> Result<(), NoMemory>
     ensures { OnOk result (text.new ≡ text.old ++ quoted bytes.now) }
 {
     let escaped = escape(text.allocator(), bytes)?;
@@ -61,7 +57,7 @@ pub(crate) fn add_quoted(text: &mut Bytes, bytes: &[u8]) -> Result<(), NoMemory>
 
 /// Adds a GUID as it is stored.
 fn add_guid(text: &mut Bytes, bytes: [u8; 16]) -> Result<(), NoMemory>
-    ensures { OnOk result (text.new ≡ text.old ++ hyphenated_text lower (swap_fields bytes)) }
+    ensures { OnOk result (text.new ≡ text.old ++ guid_text bytes) }
 {
     let mut buffer = [0; 36];
     let digits = Uuid::from_bytes_le(bytes)
@@ -70,25 +66,16 @@ fn add_guid(text: &mut Bytes, bytes: [u8; 16]) -> Result<(), NoMemory>
     text.extend(digits.as_bytes())
 }
 
-/// Adds a GUID: its text, `none` where it is null, and nothing where it is missing.
-pub(crate) fn add_guid_at(text: &mut Bytes, guid: GuidAt) -> Result<(), NoMemory>
-    ensures { OnOk result (text.new ≡ text.old ++ unwrap_or (guid_text guid) []) }
+/// Adds what is printed of a cell.
+pub(crate) fn add_cell(text: &mut Bytes, cell: &Cell) -> Result<(), NoMemory>
+    ensures { OnOk result (text.new ≡ text.old ++ cell_text cell.now) }
 {
-    match guid {
-        GuidAt::Null => text.extend(b"none"),
-        GuidAt::Is(bytes) => add_guid(text, bytes),
-        GuidAt::Missing => text.extend(&[]),
-    }
-}
-
-/// Adds what TypeDefOrRef names: a token, `none` where it is null, and nothing where it is missing.
-pub(crate) fn add_type_at(text: &mut Bytes, index: TypeAt) -> Result<(), NoMemory>
-    requires { IsRow index }
-    ensures { OnOk result (text.new ≡ text.old ++ unwrap_or (type_at_text index) []) }
-{
-    match index {
-        TypeAt::Null => text.extend(b"none"),
-        TypeAt::Is(rid) => add_token(text, 2, rid),
-        TypeAt::Missing => text.extend(&[]),
+    match cell {
+        Cell::Num(number) => add_decimal(text, *number),
+        Cell::Text(bytes) => add_quoted(text, bytes.as_slice()),
+        Cell::Guid(bytes) => add_guid(text, *bytes),
+        Cell::NoGuid => text.extend(b"none"),
+        Cell::Ref(token) => add_token(text, *token),
+        Cell::NoRef => text.extend(b"none"),
     }
 }
