@@ -1,0 +1,6 @@
+mod Bits
+mod CellLemmas
+mod DumpLemmas
+mod LineLemmas
+mod SlotLemmas
+mod ThinRows

@@ -1,0 +1,105 @@
+ghost use Rattle.std.specs.Prelude.{◌≡◌, ◌<◌, ◌^◌, ◌++◌, IfOk, OnOk};
+ghost use Rattle.std.specs.Fmt.{decimal};
+ghost use Rattle.cil_base.specs.Escape.{hex_pair, lower_hex};
+ghost use Rattle.cecil_top.specs.Texts.{cell_text, guid_text, quoted, token_text};
+ghost use Rattle.plain_dump.specs.Lines.{fault_text};
+
+use cil_base::{Bytes, List, NoMemory, escape};
+use node_model::Cell;
+use std::alloc::Global;
+use uuid::Uuid;
+
+/// The lower-case hex digit of a number below 16.
+fn lower_hex(value: u8) -> u8
+    requires { value < 16 }
+    ensures { result ≡ lower_hex value }
+{
+    if value < 10 {
+        b'0' + value
+    } else {
+        b'a' - 10 + value
+    }
+}
+
+/// Adds the two lower-case hex digits of a byte.
+fn add_hex_pair(text: &mut Bytes, byte: u8) -> Result<(), NoMemory>
+    ensures { OnOk result (text.new ≡ text.old ++ hex_pair byte) }
+{
+    text.extend(&[lower_hex(byte / 16), lower_hex(byte % 16)])
+}
+
+/// Adds a token: two hex digits for the table and six for the row.
+fn add_token(text: &mut Bytes, table: u8, rid: u32) -> Result<(), NoMemory>
+    requires { rid < 2 ^ 24 }
+    ensures { OnOk result (text.new ≡ text.old ++ token_text table rid) }
+{
+    add_hex_pair(text, table)?;
+    add_hex_pair(text, (rid / 0x10000) as u8)?;
+    add_hex_pair(text, (rid / 0x100 % 0x100) as u8)?;
+    add_hex_pair(text, (rid % 0x100) as u8)
+}
+
+/// A text that begins with a word and the token of a row.
+pub(crate) fn start(alloc: Global, word: &[u8], table: u8, rid: u32) -> Result<Bytes, NoMemory>
+    requires { rid < 2 ^ 24 }
+    ensures { IfOk result (λ text. text ≡ word.now ++ token_text table rid) }
+{
+    let mut text = List::from_slice(alloc, word)?;
+    add_token(&mut text, table, rid)?;
+    Ok(text)
+}
+
+/// The reply to a row whose cell of this number is at fault.
+pub(crate) fn fault(alloc: Global, table: u8, rid: u32, column: u64) -> Result<Bytes, NoMemory>
+    requires { rid < 2 ^ 24 }
+    ensures { IfOk result (λ text. text ≡ fault_text table rid column) }
+{
+    let mut text = start(alloc, b"fault row ", table, rid)?;
+    text.extend(b" BadRow ")?;
+    add_decimal(&mut text, column)?;
+    Ok(text)
+}
+
+/// Adds a number in decimal.
+fn add_decimal(text: &mut Bytes, number: u64) -> Result<(), NoMemory>
+    ensures { OnOk result (text.new ≡ text.old ++ decimal number) }
+{
+    let digits = format!(in text.allocator(); "{number}")?;
+    text.extend(digits.as_bytes())
+}
+
+/// Adds a text, escaped and in quotes.
+fn add_quoted(text: &mut Bytes, bytes: &[u8]) -> Result<(), NoMemory>
+    ensures { OnOk result (text.new ≡ text.old ++ quoted bytes.now) }
+{
+    let escaped = escape(text.allocator(), bytes)?;
+    text.push(b'"')?;
+    text.extend(escaped.as_slice())?;
+    text.push(b'"')
+}
+
+/// Adds a GUID as it is stored.
+fn add_guid(text: &mut Bytes, bytes: [u8; 16]) -> Result<(), NoMemory>
+    ensures { OnOk result (text.new ≡ text.old ++ guid_text bytes) }
+{
+    let mut buffer = [0; 36];
+    let digits = Uuid::from_bytes_le(bytes)
+        .hyphenated()
+        .encode_lower(&mut buffer);
+    text.extend(digits.as_bytes())
+}
+
+/// Adds a cell behind its name.
+pub(crate) fn add_cell(text: &mut Bytes, name: &[u8], cell: &Cell) -> Result<(), NoMemory>
+    ensures { OnOk result (text.new ≡ text.old ++ name.now ++ cell_text cell.now) }
+{
+    text.extend(name)?;
+    match cell {
+        Cell::Num(number) => add_decimal(text, *number),
+        Cell::Text(bytes) => add_quoted(text, bytes.as_slice()),
+        Cell::Guid(bytes) => add_guid(text, *bytes),
+        Cell::Ref(token) => add_token(text, token.table, token.rid),
+        Cell::NoGuid => text.extend(b"none"),
+        Cell::NoRef => text.extend(b"none"),
+    }
+}
