@@ -1,0 +1,92 @@
+-- What is stripped can be spelled.
+use Rattle.std.proofs.Common.{◌≡◌, ◌≢◌, ℕ, suc, zero, ◌+◌, ◌%◌, ◌^◌, ◌<◌, ◌≤◌, List, [], ◌∷◌, ◌++◌, Bool, true, false, cond, ◌&&◌, eqb, leb, ltb, ℤ, pos, negsuc, ◌-◌, Option, Some, None, is_some, length, map, refl, append_assoc, sym, ap, subst, ◌∙◌, arith, ◌⊎◌, inl, inr}
+use Rattle.std.specs.Option.{option_and_then, option_map}
+use Rattle.std.specs.List.{list_all}
+use Rattle.std.proofs.lemmas.Bool.{eqb-true, eq-eqb}
+use Rattle.std.proofs.lemmas.Bool.Decides.{nat_tests}
+use Rattle.std.proofs.lemmas.List.Folds.{list_all-map}
+use Rattle.cil_base.specs.Token.{Token}
+use Rattle.cil_base.specs.Reading.{number_at, signed_at}
+use Rattle.cil_base.specs.Number.{strip_number, spelled_number, strip_form, one_byte, two_bytes, four_bytes}
+use Rattle.cil_base.specs.Signed.{is_within, strip_signed, spelled_signed}
+use Rattle.cil_base.proofs.NumberLemmas.{forms, Stands, below}
+use Rattle.sig_tree.specs.Symbols.{Symbol, Byte, Number, Signed, TypeToken, strip_symbol, strip_symbols, coded_token, can_be_spelled, spelling_of}
+use Rattle.sig_tree.specs.Spelling.{arity_symbols, convention_byte, in_order, type_symbols, method_symbols, all_symbols, symbols, strip, with_sentinel, sentinel_at, flag}
+use Rattle.sig_tree.specs.Bounds.{is_kind, has_place, type_fits, method_fits, all_fit, fits, Bounded, depth_limit}
+use Rattle.sig_tree.specs.Reads.{is_plain, Reads, Parses}
+use Rattle.sig_tree.specs.Fronts.{after, wrap, many_at, counted_at}
+use Rattle.sig_tree.specs.Parsing.{is_convention, method_at, convention_at, type_at, whole, last_sentinel, ends_method, property_at, sort_at, tree_at}
+use Rattle.sig_tree.specs.declared.tree.Sentinel.{Sentinel}
+use Rattle.sig_tree.specs.declared.tree.Sentinel.TheVariants.{None as no_sentinel, Before}
+use Rattle.sig_tree.specs.declared.tree.TypeSig.{TypeSig}
+use Rattle.sig_tree.specs.declared.tree.MethodSig.{MethodSig}
+use Rattle.sig_tree.specs.declared.tree.SigTree.{SigTree}
+use Rattle.sig_tree.specs.declared.tree.SigTree.TheVariants.{Method, Field, Locals, Property, Inst as MethodInst, Plain}
+use Rattle.sig_tree.proofs.Strips.{Exact, split, same_some, none_some, both, and, came, wrapped, goes, wraps, one, first_of_row, parts, follows, begin, begins_with, many_sound, many_full}
+use Rattle.sig_tree.proofs.Leaves.{number_exact}
+use Rattle.sig_tree.proofs.Rows.{method_spellable}
+use Rattle.sig_tree.proofs.Params.{rows, mark, not_at}
+use Rattle.sig_tree.proofs.Methods.{row-is, fits-is, method_sound, method_full}
+use Rattle.sig_tree.proofs.Levels.{type_exact}
+
+number_spells : (n : ℕ) (s r : List ℕ) → strip_number n s ≡ Some r → can_be_spelled (Number n) ≡ true
+number_spells n s r h =
+    let small : n < 2 ^ 29 =
+    elim (forms n s r h) [
+      | inl a ↦ let low : n < 2 ^ 7 = a.fits in omega arith
+      | inr o ↦ elim o [
+        | inl a ↦ let low : n < 2 ^ 14 = a.fits in omega arith
+        | inr a ↦ a.fits
+      ]
+    ] in
+    let test : ltb n (2 ^ 29) ≡ true = grind (arith, nat_tests) in
+    ap (λ (b : Bool). is_some (cond {A = Option (List ℕ)} b (Some (spelled_number n)) None)) test
+
+narrower : (z : ℤ) (k m : ℕ) → 2 ^ (k - 1) ≤ 2 ^ (m - 1) → is_within m z ≡ false → is_within k z ≡ false
+narrower (pos n) k m h e = grind (arith, nat_tests)
+narrower (negsuc n) k m h e = grind (arith, nat_tests)
+
+signed_spells : (z : ℤ) (s r : List ℕ) → strip_signed z s ≡ Some r → can_be_spelled (Signed z) ≡ true
+unfolding strip_signed
+signed_spells z s r h =
+    elim (is_within 29 z) as (λ v. is_within 29 z ≡ v → is_some (cond {A = Option (List ℕ)} v (Some (spelled_signed z)) None) ≡ true) [
+      | true ↦ λ e. refl
+      | false ↦ λ e.
+          let f = narrower z 14 29 (omega arith) e in
+          let g = narrower z 7 29 (omega arith) e in
+          let none : strip_signed z s ≡ None = rw (e, f, g) in
+          none_some {A = List ℕ} {P = false ≡ true} r (sym none ∙ h)
+    ] refl
+
+token_spells : (t : Token) (s r : List ℕ) (o : Option ℕ) → coded_token t ≡ o → option_and_then {T = ℕ} {U = List ℕ} (λ n. strip_number n s) o ≡ Some r → is_some (option_map spelled_number o) ≡ true
+token_spells t s r None e h = none_some {A = List ℕ} {P = false ≡ true} r h
+token_spells t s r (Some n) e h = refl
+
+symbol_spells : (x : Symbol) (s r : List ℕ) → strip_symbol x s ≡ Some r → can_be_spelled x ≡ true
+symbol_spells (Byte b) s r h = refl
+symbol_spells (Number n) s r h = number_spells n s r h
+symbol_spells (Signed z) s r h = signed_spells z s r h
+symbol_spells (TypeToken t) s r h = token_spells t s r (coded_token t) refl h
+
+pub strips_spellable : (xs : List Symbol) (s r : List ℕ) → strip_symbols xs s ≡ Some r → list_all can_be_spelled xs ≡ true
+strips_spellable [] s r h = refl
+strips_spellable (x ∷ xs) s r h =
+    let p = first_of_row x xs s r h in
+    and (can_be_spelled x) (list_all can_be_spelled xs) (symbol_spells x s p.rest p.before) (strips_spellable xs p.rest r p.then)
+
+row_count : (m : MethodSig) → list_all can_be_spelled (method_symbols m) ≡ true → can_be_spelled (Number (length m.params)) ≡ true
+row_count m h =
+    let p = both (list_all can_be_spelled (arity_symbols m.arity)) (can_be_spelled (Number (length m.params)) && (list_all can_be_spelled (type_symbols m.ret) && list_all can_be_spelled (all_symbols m.params))) (sym (method_spellable m) ∙ h) in
+    (both (can_be_spelled (Number (length m.params))) (list_all can_be_spelled (type_symbols m.ret) && list_all can_be_spelled (all_symbols m.params)) p.1).0
+
+spelled_small : (n : ℕ) → can_be_spelled (Number n) ≡ true → n < 2 ^ 29
+spelled_small n h = elim (ltb n (2 ^ 29)) as (λ v. ltb n (2 ^ 29) ≡ v → is_some (cond {A = Option (List ℕ)} v (Some (spelled_number n)) None) ≡ true → n < 2 ^ 29) [
+  | true ↦ λ e k. below n (2 ^ 29) e
+  | false ↦ λ e k. absurd cc
+] refl h
+
+-- the parameters of a method that was read are fewer than 2^29
+pub method_short : (m : MethodSig) (s r : List ℕ) → method_at (type_at 64) s ≡ Some (m, r) → length m.params < 2 ^ 29
+method_short m s r h =
+    let p = method_sound (type_at depth_limit) depth_limit (type_exact depth_limit) m s r h in
+    spelled_small (length m.params) (row_count m (strips_spellable (method_symbols m) s r p.strips))

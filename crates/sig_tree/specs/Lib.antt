@@ -1,0 +1,9 @@
+pub mod Symbols
+pub mod Spelling
+pub mod Bounds
+pub mod Names
+pub mod Printed
+pub mod Fronts
+pub mod Parsing
+pub mod Reads
+pub mod Replaced

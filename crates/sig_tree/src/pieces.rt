@@ -1,0 +1,248 @@
+ghost use Rattle.std.specs.Prelude.{◌≡◌, ◌++◌, ◌∷◌, [], ◌&&◌, map, length, codes, OnOk, IfOk, if◌then◌else◌, true, false};
+ghost use Rattle.std.specs.Fmt.{decimal, signed_decimal};
+ghost use Rattle.sig_tree.specs.Spelling.{with_sentinel, sentinel_at, sentinel_stands};
+ghost use Rattle.sig_tree.specs.Printed.{chars, commas, arity_pieces, type_pieces, method_pieces, types_pieces, pieces};
+
+use crate::piece::{Piece, add_comma, add_number, add_text, kind_name, prim_name};
+use crate::tree::{Arity, MethodSig, Sentinel, SigTree, TypeSig};
+use cil_base::{List, NoMemory};
+use std::alloc::Global;
+
+/// The printed form of a signature, part by part.
+pub(crate) fn sig_pieces(alloc: Global, sig: &SigTree) -> Result<List<Piece>, NoMemory>
+    ensures { IfOk result (λ all. all ≡ pieces sig.now) }
+{
+    let mut out = List::new(alloc);
+    add_sig(alloc, sig, &mut out)?;
+    Ok(out)
+}
+
+fn add_sig(alloc: Global, sig: &SigTree, out: &mut List<Piece>) -> Result<(), NoMemory>
+    ensures { OnOk result (out.new ≡ out.old ++ pieces sig.now) }
+{
+    match sig {
+        SigTree::Method(method) => add_method(alloc, method, out),
+        SigTree::Field(ty) => {
+            add_text(out, b"field ")?;
+            add_type(alloc, ty, out)
+        }
+        SigTree::Locals(types) => {
+            add_text(out, b"locals(")?;
+            add_types(alloc, types.as_slice(), out)?;
+            add_text(out, b")")
+        }
+        SigTree::Property { this, ty, params } => {
+            add_text(out, b"property ")?;
+            add_text(out, if *this { b"instance " } else { b"" })?;
+            add_type(alloc, ty, out)?;
+            add_text(out, b"(")?;
+            add_types(alloc, params.as_slice(), out)?;
+            add_text(out, b")")
+        }
+        SigTree::Inst(args) => {
+            add_text(out, b"inst<")?;
+            add_types(alloc, args.as_slice(), out)?;
+            add_text(out, b">")
+        }
+        SigTree::Plain(ty) => add_type(alloc, ty, out),
+    }
+}
+
+#[cycle(pieces)]
+fn add_type(alloc: Global, ty: &TypeSig, out: &mut List<Piece>) -> Result<(), NoMemory>
+    ensures { OnOk result (out.new ≡ out.old ++ type_pieces ty.now) }
+{
+    match ty {
+        TypeSig::Prim(code) => add_text(out, prim_name(*code)),
+        TypeSig::Ptr(ty) => {
+            add_type(alloc, ty.get(), out)?;
+            add_text(out, b"*")
+        }
+        TypeSig::ByRef(ty) => {
+            add_type(alloc, ty.get(), out)?;
+            add_text(out, b"&")
+        }
+        TypeSig::Value(of) => {
+            add_text(out, b"valuetype ")?;
+            out.push(Piece::Name(*of))
+        }
+        TypeSig::Class(of) => {
+            add_text(out, b"class ")?;
+            out.push(Piece::Name(*of))
+        }
+        TypeSig::Var(number) => {
+            add_text(out, b"!")?;
+            add_number(alloc, *number, out)
+        }
+        TypeSig::MVar(number) => {
+            add_text(out, b"!!")?;
+            add_number(alloc, *number, out)
+        }
+        TypeSig::SzArray(ty) => {
+            add_type(alloc, ty.get(), out)?;
+            add_text(out, b"[]")
+        }
+        TypeSig::Array {
+            elem,
+            rank,
+            sizes,
+            lows,
+        } => {
+            add_type(alloc, elem.get(), out)?;
+            add_shape(alloc, *rank, sizes.as_slice(), lows.as_slice(), out)
+        }
+        TypeSig::Inst { value, of, args } => {
+            add_text(out, if *value { b"valuetype " } else { b"class " })?;
+            out.push(Piece::Name(*of))?;
+            add_text(out, b"<")?;
+            add_types(alloc, args.as_slice(), out)?;
+            add_text(out, b">")
+        }
+        TypeSig::FnPtr(method) => {
+            add_text(out, b"fnptr(")?;
+            add_method(alloc, method.get(), out)?;
+            add_text(out, b")")
+        }
+        TypeSig::Mod {
+            required,
+            of,
+            inner,
+        } => {
+            add_text(out, if *required { b"modreq(" } else { b"modopt(" })?;
+            out.push(Piece::Name(*of))?;
+            add_text(out, b") ")?;
+            add_type(alloc, inner.get(), out)
+        }
+        TypeSig::Pinned(ty) => {
+            add_text(out, b"pinned ")?;
+            add_type(alloc, ty.get(), out)
+        }
+    }
+}
+
+#[cycle(pieces)]
+fn add_method(alloc: Global, method: &MethodSig, out: &mut List<Piece>) -> Result<(), NoMemory>
+    ensures { OnOk result (out.new ≡ out.old ++ method_pieces method.now) }
+{
+    add_text(out, if method.this { b"instance " } else { b"" })?;
+    add_text(out, if method.explicit { b"explicit " } else { b"" })?;
+    add_text(out, kind_name(method.kind))?;
+    add_arity(alloc, method.arity, out)?;
+    add_type(alloc, &method.ret, out)?;
+    add_text(out, b"(")?;
+    add_params(alloc, method.params.as_slice(), method.sentinel, out)?;
+    add_text(out, b")")
+}
+
+/// The parameters, with `...` where the sentinel stands.
+#[cycle(pieces)]
+fn add_params(
+    alloc: Global,
+    params: &[TypeSig],
+    sentinel: Sentinel,
+    out: &mut List<Piece>,
+) -> Result<(), NoMemory>
+    ensures { OnOk result (out.new ≡ out.old ++ commas true (with_sentinel sentinel (chars (codes "...")) 0 (map type_pieces params.now))) }
+{
+    let mut first = true;
+    for (number, ty) in params.iter().enumerate() {
+        first = add_sentinel(sentinel, number, first, out)?;
+        add_comma(first, out)?;
+        add_type(alloc, ty, out)?;
+        first = false;
+    }
+    add_sentinel(sentinel, params.len(), first, out)?;
+    Ok(())
+}
+
+/// Types with a comma between each two.
+#[cycle(pieces)]
+fn add_types(alloc: Global, types: &[TypeSig], out: &mut List<Piece>) -> Result<(), NoMemory>
+    ensures { OnOk result (out.new ≡ out.old ++ types_pieces types.now) }
+{
+    let mut first = true;
+    for ty in types {
+        add_comma(first, out)?;
+        add_type(alloc, ty, out)?;
+        first = false;
+    }
+    Ok(())
+}
+
+/// Rank, sizes and lower bounds in brackets.
+fn add_shape(
+    alloc: Global,
+    rank: u32,
+    sizes: &[u32],
+    lows: &[i32],
+    out: &mut List<Piece>,
+) -> Result<(), NoMemory>
+    ensures { OnOk result (out.new ≡ out.old ++ chars (codes "[") ++ chars (decimal rank) ++ chars (codes ";") ++ commas true (map (λ n. chars (decimal n)) sizes.now)
+        ++ chars (codes ";") ++ commas true (map (λ z. chars (signed_decimal z)) lows.now) ++ chars (codes "]")) }
+{
+    add_text(out, b"[")?;
+    add_number(alloc, rank, out)?;
+    add_text(out, b";")?;
+    add_sizes(alloc, sizes, out)?;
+    add_text(out, b";")?;
+    add_lows(alloc, lows, out)?;
+    add_text(out, b"]")
+}
+
+fn add_sizes(alloc: Global, sizes: &[u32], out: &mut List<Piece>) -> Result<(), NoMemory>
+    ensures { OnOk result (out.new ≡ out.old ++ commas true (map (λ n. chars (decimal n)) sizes.now)) }
+{
+    let mut first = true;
+    for size in sizes {
+        add_comma(first, out)?;
+        add_number(alloc, *size, out)?;
+        first = false;
+    }
+    Ok(())
+}
+
+fn add_lows(alloc: Global, lows: &[i32], out: &mut List<Piece>) -> Result<(), NoMemory>
+    ensures { OnOk result (out.new ≡ out.old ++ commas true (map (λ z. chars (signed_decimal z)) lows.now)) }
+{
+    let mut first = true;
+    for low in lows {
+        add_comma(first, out)?;
+        let text = format!(in alloc; "{}", *low)?;
+        add_text(out, text.as_bytes())?;
+        first = false;
+    }
+    Ok(())
+}
+
+fn add_arity(alloc: Global, arity: Arity, out: &mut List<Piece>) -> Result<(), NoMemory>
+    ensures { OnOk result (out.new ≡ out.old ++ arity_pieces arity) }
+{
+    match arity {
+        Arity::Plain => Ok(()),
+        Arity::Generic(number) => {
+            add_text(out, b"generic ")?;
+            add_number(alloc, number, out)?;
+            add_text(out, b" ")
+        }
+    }
+}
+
+/// Adds `...` where the sentinel stands before that number, and answers whether nothing stands before the next item yet.
+fn add_sentinel(
+    sentinel: Sentinel,
+    number: usize,
+    first: bool,
+    out: &mut List<Piece>,
+) -> Result<bool, NoMemory>
+    ensures text { OnOk result (out.new ≡ out.old ++ commas first (sentinel_at sentinel number (chars (codes "...")))) }
+    ensures first { IfOk result (λ still. still ≡ (if sentinel_stands sentinel number then false else first)) }
+{
+    match sentinel {
+        Sentinel::Before(at) if at as usize == number => {
+            add_comma(first, out)?;
+            add_text(out, b"...")?;
+            Ok(false)
+        }
+        _ => Ok(first),
+    }
+}

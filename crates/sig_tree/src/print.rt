@@ -1,0 +1,101 @@
+ghost use Rattle.std.specs.Prelude.{◌≡◌, ◌++◌, ◌<◌, length, OnOk, IfOk};
+ghost use Rattle.cil_base.specs.Escape.{hex_pair, lower_hex};
+ghost use Rattle.sig_tree.specs.Printed.{printed, tokens, named, token_text, piece_text, filled};
+
+use crate::piece::Piece;
+use crate::pieces::sig_pieces;
+use crate::sig::Sig;
+use cil_base::{Bytes, List, NoMemory, Token};
+use std::alloc::Global;
+
+/// The printed form of a signature, with each type token as two and six lower-case hex digits.
+pub fn print_sig(alloc: Global, sig: &Sig) -> Result<Bytes, NoMemory>
+    ensures { IfOk result (λ text. text ≡ printed sig.now) }
+{
+    let pieces = sig_pieces(alloc, sig.tree())?;
+    let mut out = List::new(alloc);
+    for piece in pieces.as_slice() {
+        add_piece(piece, &mut out)?;
+    }
+    Ok(out)
+}
+
+/// The type tokens of a signature in the order in which they are printed, repeats included.
+pub fn sig_tokens(alloc: Global, sig: &Sig) -> Result<List<Token>, NoMemory>
+    ensures { IfOk result (λ all. all ≡ tokens sig.now) }
+{
+    let pieces = sig_pieces(alloc, sig.tree())?;
+    let mut out = List::new(alloc);
+    for piece in pieces.as_slice() {
+        if let Piece::Name(of) = piece {
+            out.push(*of)?;
+        }
+    }
+    Ok(out)
+}
+
+/// The printed form with the names in the places of the type tokens, in order. Asks for as many names as there are tokens.
+pub fn print_named(alloc: Global, sig: &Sig, names: &List<Bytes>) -> Result<Bytes, NoMemory>
+    requires { length names.now ≡ length (tokens sig.now) }
+    ensures { IfOk result (λ text. text ≡ named sig.now names.now) }
+{
+    let pieces = sig_pieces(alloc, sig.tree())?;
+    fill(alloc, pieces.as_slice(), names.as_slice())
+}
+
+fn fill(alloc: Global, pieces: &[Piece], names: &[Bytes]) -> Result<Bytes, NoMemory>
+    ensures { IfOk result (λ text. text ≡ filled pieces.now names.now) }
+{
+    let mut out = List::new(alloc);
+    let mut left = names;
+    for piece in pieces {
+        match piece {
+            Piece::Char(c) => out.push(*c)?,
+            Piece::Name(_) => match left {
+                [name, rest @ ..] => {
+                    out.extend(name.as_slice())?;
+                    left = rest;
+                }
+                [] => return Ok(out),
+            },
+        }
+    }
+    Ok(out)
+}
+
+fn add_piece(piece: &Piece, out: &mut Bytes) -> Result<(), NoMemory>
+    ensures { OnOk result (out.new ≡ out.old ++ piece_text piece.now) }
+{
+    match piece {
+        Piece::Char(c) => out.push(*c),
+        Piece::Name(of) => add_token(of, out),
+    }
+}
+
+/// A token as two and six hex digits.
+fn add_token(of: &Token, out: &mut Bytes) -> Result<(), NoMemory>
+    ensures { OnOk result (out.new ≡ out.old ++ token_text of.now) }
+{
+    add_hex(of.table, out)?;
+    add_hex((of.rid / 0x1_0000) as u8, out)?;
+    add_hex((of.rid / 0x100 % 0x100) as u8, out)?;
+    add_hex((of.rid % 0x100) as u8, out)
+}
+
+fn add_hex(byte: u8, out: &mut Bytes) -> Result<(), NoMemory>
+    ensures { OnOk result (out.new ≡ out.old ++ hex_pair byte) }
+{
+    out.extend(&[hex_digit(byte / 16), hex_digit(byte % 16)])
+}
+
+/// The lower-case hex digit of a number below 16.
+fn hex_digit(value: u8) -> u8
+    requires { value < 16 }
+    ensures { result ≡ lower_hex value }
+{
+    if value < 10 {
+        b'0' + value
+    } else {
+        b'a' - 10 + value
+    }
+}
