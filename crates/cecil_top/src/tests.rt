@@ -2,6 +2,7 @@ use super::*;
 use cil_base::List;
 use cil_outside::{Folder, MemoryOutlet, NamedFile, Outlet, SoundFolder, SoundOutlet, TableFolder};
 use std::alloc::Global;
+use std::process::Abort;
 use std::test::Fail;
 
 /// The places and bytes of the small image; all others of its 1,024 are zero.
@@ -165,39 +166,39 @@ fn words_beyond_the_grammar_are_usage(rt: HostRuntime) -> Result<(), Fail> {
     Ok(())
 }
 
+/// Compares the status and its line over a file that cannot be taken; no text is written.
+fn is_not_taken<R: Abort>(
+    rt: &R,
+    alloc: Global,
+    folder: &mut SoundFolder,
+    name: &str,
+    line: &str,
+) -> Result<(), Fail> {
+    let mut out = SoundOutlet::new(alloc);
+    let status = run(alloc, &["dump", name], folder, &mut out)?;
+    assert_eq!(rt; status.number(), 4, "{line}");
+    assert_eq!(rt; said(alloc, &status)?.as_slice(), line.as_bytes(), "{line}");
+    assert_eq!(rt; out.written(), b"".as_slice(), "{line}");
+    Ok(())
+}
+
 #[test]
 fn a_file_that_cannot_be_taken_has_its_cause(rt: HostRuntime) -> Result<(), Fail> {
     let alloc = rt.alloc();
+    let mut empty = SoundFolder::new(Vec::new(alloc));
+    let missing = "cecil: file none.dll: missing";
+    is_not_taken(&rt, alloc, &mut empty, "none.dll", missing)?;
+    let refused = "cecil: file small.dll: refused 14 NotThin";
     let cases = [
-        ("none.dll", 0x3ff, "cecil: file none.dll: missing"),
-        ("\"", 0x3ff, "cecil: file \\\": missing"),
-        (
-            "small.dll",
-            0x000,
-            "cecil: file small.dll: refused 14 NotThin",
-        ),
-        (
-            "small.dll",
-            0x2ba,
-            "cecil: file small.dll: refused 14 NotThin",
-        ),
-        (
-            "small.dll",
-            0x2bd,
-            "cecil: file small.dll: refused 14 NotThin",
-        ),
+        ("none.dll", 0x3ff, 0x01, missing),
+        ("\"", 0x3ff, 0x01, "cecil: file \\\": missing"),
+        ("small.dll", 0x000, 0x00, refused),
+        ("small.dll", 0x2ba, 0x01, refused),
+        ("small.dll", 0x2bd, 0x01, refused),
     ];
-    for (name, place, line) in cases {
-        let mut folder = SoundFolder::new(files(alloc, place, 1)?);
-        let mut out = SoundOutlet::new(alloc);
-        let status = run(alloc, &["dump", name], &mut folder, &mut out)?;
-        assert_eq!(rt; status.number(), 4, "{name} {place}");
-        assert_eq!(rt;
-            said(alloc, &status)?.as_slice(),
-            line.as_bytes(),
-            "{name} {place}"
-        );
-        assert_eq!(rt; out.written(), b"".as_slice(), "{name} {place}");
+    for (name, place, byte, line) in cases {
+        let mut folder = SoundFolder::new(files(alloc, place, byte)?);
+        is_not_taken(&rt, alloc, &mut folder, name, line)?;
     }
     Ok(())
 }
