@@ -72,8 +72,16 @@ fn digest<R: Abort>(rt: &R, alloc: Global, sum: u64, image: Vec<u8>) -> Result<u
     ];
     let status = inspect(alloc, &words, &mut folder, &mut out);
     match &plain {
-        Some(text) => assert_eq!(rt; out.written(), text.as_slice(), "as defined"),
-        None => assert!(rt; out.written().is_empty(), "no text of what is not thin"),
+        Some(text) => assert_eq!(rt;
+            (status.number(), out.written()),
+            (0, text.as_slice()),
+            "as defined"
+        ),
+        None => assert_eq!(rt;
+            (status.number(), out.written()),
+            (4, b"".as_slice()),
+            "as defined"
+        ),
     }
     Ok(
         out.written()
