@@ -1,5 +1,6 @@
 -- A metadata token: the number of a table and of one of its rows (ECMA-335 II.22).
-use Rattle.std.specs.Prelude.{ℕ}
+use Rattle.std.specs.Prelude.{ℕ, ◌/◌, ◌%◌, ◌++◌, List}
+use Rattle.cil_base.specs.Escape.{hex_pair}
 
 -- the table's number, and the row's, which is counted from 1
 pub record Token : Type 0 where
@@ -9,3 +10,7 @@ pub record Token : Type 0 where
 -- the root is no row: it stands for the module where no row is meant
 abbrev pub root : Token
 root = record { table = 0; rid = 0 }
+
+-- a token in hex: two digits for the table and six for the row
+abbrev pub token_text : ℕ → ℕ → List ℕ
+token_text table rid = hex_pair table ++ hex_pair (rid / 65536) ++ hex_pair (rid / 256 % 256) ++ hex_pair (rid % 256)

@@ -29,7 +29,7 @@ fn escape_byte(byte: u8, text: &mut Bytes) -> Result<(), NoMemory>
 }
 
 /// The lower-case hex digit of a number below 16.
-fn hex_digit(value: u8) -> u8
+pub(crate) fn hex_digit(value: u8) -> u8
     requires { value < 16 }
     ensures { result ≡ lower_hex value }
 {

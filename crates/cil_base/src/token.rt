@@ -1,5 +1,7 @@
 ghost use Rattle.std.specs.Prelude.{◌≡◌, ◌<◌, ◌^◌};
+ghost use Rattle.cil_base.specs.Token.{token_text};
 
+use crate::escaped::hex_digit;
 use std::marker::Model;
 
 /// The greatest row number of a table, 2^24 - 1.
@@ -29,6 +31,25 @@ impl Model for Token {
 impl Token {
     /// The root, which stands for the module where no row is meant.
     pub const ROOT: Token = Token { table: 0, rid: 0 };
+
+    /// The token as eight lower-case hex digits: two for the table and six for the row.
+    pub fn hex_digits(self) -> [u8; 8]
+        ensures { result ≡ token_text self.table self.rid }
+    {
+        let high = (self.rid / 0x10000) as u8;
+        let middle = (self.rid / 0x100 % 0x100) as u8;
+        let low = (self.rid % 0x100) as u8;
+        [
+            hex_digit(self.table / 16),
+            hex_digit(self.table % 16),
+            hex_digit(high / 16),
+            hex_digit(high % 16),
+            hex_digit(middle / 16),
+            hex_digit(middle % 16),
+            hex_digit(low / 16),
+            hex_digit(low % 16),
+        ]
+    }
 }
 
 #[cfg(test)]
@@ -44,5 +65,18 @@ mod tests {
         let second = Token { table: 4, rid: 1 };
         assert!(rt; first < second);
         assert_eq!(rt; Token::ROOT, Token { table: 0, rid: 0 });
+    }
+
+    #[test]
+    fn tokens_have_eight_digits(rt: HostRuntime) {
+        let rows = [
+            (0x00, 0, b"00000000"),
+            (0x02, 1, b"02000001"),
+            (0x1b, 0x00ab_cdef, b"1babcdef"),
+            (0xff, MAX_RID, b"ffffffff"),
+        ];
+        for (table, rid, text) in rows {
+            assert_eq!(rt; &Token { table, rid }.hex_digits(), text);
+        }
     }
 }
