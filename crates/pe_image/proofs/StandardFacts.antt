@@ -1,11 +1,10 @@
 -- Values worked out by hand from the standard, so that a wrong number or place in a definition does not check.
 use Rattle.std.specs.Prelude.{◌≡◌, ℕ, true, List, [], ◌∷◌, ◌++◌, length, Some, Err, codes, refl}
-use Rattle.cil_base.specs.Token.{Token}
 use Rattle.pe_image.specs.Places.{first, u32_at, u64_at}
 use Rattle.pe_image.specs.CliHeader.{token_of}
 use Rattle.pe_image.specs.Sections.{section_at, place_in}
 use Rattle.pe_image.specs.Streams.{name_length, header_width, stream_at}
-use Rattle.pe_image.specs.Rows.{table_numbers, tables_before, row_count, rows_place, rows_size, unsupported, has_rows, RowsRefusal, UnsupportedTable, BadHeapSizes, BadTables, rows_conditions}
+use Rattle.pe_image.specs.Rows.{table_numbers, tables_before, row_count, rows_place, rows_size, unsupported, has_rows, UnsupportedTable, BadHeapSizes, BadTables, rows_conditions}
 use Rattle.pe_image.specs.Thin.{thin_width, has_thin_rows}
 use Rattle.pe_image.specs.declared.stream.StreamName.TheVariants.{Tables}
 

@@ -33,6 +33,22 @@ fn opens_the_small_image_and_tells_its_facts(rt: HostRuntime) -> Result<(), Fail
 }
 
 #[test]
+fn tells_a_time_an_entry_point_and_native_code(rt: HostRuntime) -> Result<(), Fail> {
+    let mut file = small();
+    put(&mut file, 0x048, &[0x78, 0x56, 0x34, 0x12]);
+    put(&mut file, 0x214, &[1, 0, 0, 6]);
+    put(&mut file, 0x240, &[0, 0x30, 0, 0, 8]);
+    let pe = Pe::open(rt.alloc(), &file)
+        .ok()
+        .ok_or("the changed image opens")?;
+    let facts = pe.facts();
+    assert_eq!(rt; facts.time, 0x1234_5678);
+    assert_eq!(rt; facts.entry, Token { table: 6, rid: 1 });
+    assert_eq!(rt; facts.native, true);
+    Ok(())
+}
+
+#[test]
 fn finds_the_bytes_of_places_and_streams(rt: HostRuntime) {
     let file = small();
     let Ok(pe) = Pe::open(rt.alloc(), &file) else {
