@@ -1,5 +1,8 @@
 //! The numbers of the tables (ECMA-335 II.22).
 
+ghost use Rattle.std.specs.Prelude.{◌≡◌, map};
+ghost use Rattle.md_schema.specs.Schema.{tables};
+
 pub const MODULE: u8 = 0x00;
 
 pub const TYPE_REF: u8 = 0x01;
@@ -75,3 +78,49 @@ pub const GENERIC_PARAM: u8 = 0x2a;
 pub const METHOD_SPEC: u8 = 0x2b;
 
 pub const GENERIC_PARAM_CONSTRAINT: u8 = 0x2c;
+
+/// Returns the numbers of the tables, in rising order.
+pub fn numbers() -> &'static [u8]
+    ensures { result.now ≡ map (λ table. table.number) tables }
+{
+    &[
+        MODULE,
+        TYPE_REF,
+        TYPE_DEF,
+        FIELD,
+        METHOD_DEF,
+        PARAM,
+        INTERFACE_IMPL,
+        MEMBER_REF,
+        CONSTANT,
+        CUSTOM_ATTRIBUTE,
+        FIELD_MARSHAL,
+        DECL_SECURITY,
+        CLASS_LAYOUT,
+        FIELD_LAYOUT,
+        STAND_ALONE_SIG,
+        EVENT_MAP,
+        EVENT,
+        PROPERTY_MAP,
+        PROPERTY,
+        METHOD_SEMANTICS,
+        METHOD_IMPL,
+        MODULE_REF,
+        TYPE_SPEC,
+        IMPL_MAP,
+        FIELD_RVA,
+        ASSEMBLY,
+        ASSEMBLY_PROCESSOR,
+        ASSEMBLY_OS,
+        ASSEMBLY_REF,
+        ASSEMBLY_REF_PROCESSOR,
+        ASSEMBLY_REF_OS,
+        FILE,
+        EXPORTED_TYPE,
+        MANIFEST_RESOURCE,
+        NESTED_CLASS,
+        GENERIC_PARAM,
+        METHOD_SPEC,
+        GENERIC_PARAM_CONSTRAINT,
+    ]
+}
