@@ -1,5 +1,5 @@
 -- Equal types have equal parts.
-use Rattle.std.proofs.Common.{◌≡◌, ℕ, List, Bool, true, ℤ, refl, sym, ap, ◌∙◌}
+use Rattle.std.proofs.Common.{◌≡◌, ℕ, List, Bool, ℤ, sym, ap, ◌∙◌}
 use Rattle.cil_base.specs.Token.{Token}
 use Rattle.sig_tree.specs.declared.tree.TypeSig.{TypeSig}
 use Rattle.sig_tree.specs.declared.tree.TypeSig.TheVariants.{Prim, Ptr, ByRef, Value, Class, Var, MVar, SzArray, Array, Inst, FnPtr, Mod, Pinned}

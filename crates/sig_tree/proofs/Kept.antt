@@ -1,10 +1,10 @@
 -- A signature keeps its bounds when type tokens stand in the places of its own.
-use Rattle.std.proofs.Common.{◌≡◌, ℕ, suc, zero, List, [], ◌∷◌, ◌++◌, Bool, true, false, cond, ◌&&◌, ℤ, length, map, drop, refl, sym, ap, subst, ◌∙◌}
+use Rattle.std.proofs.Common.{◌≡◌, ℕ, suc, zero, List, [], ◌∷◌, ◌++◌, Bool, true, false, ◌&&◌, ℤ, length, map, drop, refl, sym, ap, subst, ◌∙◌}
 use Rattle.std.specs.List.{list_all}
 use Rattle.std.proofs.lemmas.List.Folds.{list_all-map, list_all-append}
 use Rattle.cil_base.specs.Token.{Token}
 use Rattle.sig_tree.specs.Symbols.{Symbol, Byte, Number, Signed, TypeToken, can_be_spelled}
-use Rattle.sig_tree.specs.Spelling.{in_order, counted, arity_symbols, method_symbols, type_symbols, all_symbols}
+use Rattle.sig_tree.specs.Spelling.{counted, arity_symbols, method_symbols, type_symbols, all_symbols}
 use Rattle.sig_tree.specs.Bounds.{is_kind, has_place, type_fits, method_fits, all_fit, Bounded, depth_limit}
 use Rattle.sig_tree.specs.Replaced.{next, type_taking, method_taking, type_with, method_with, types_with, replaced}
 use Rattle.sig_tree.specs.declared.tree.TypeSig.{TypeSig}

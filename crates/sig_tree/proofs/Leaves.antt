@@ -1,14 +1,13 @@
 -- Numbers and type tokens: what is read is what is stripped.
-use Rattle.std.proofs.Common.{◌≡◌, ℕ, ◌+◌, ◌*◌, ◌/◌, ◌%◌, ◌^◌, ◌<◌, List, [], ◌∷◌, Bool, true, false, cond, eqb, ltb, ℤ, Option, Some, None, refl, sym, ap, subst, ◌∙◌, arith}
+use Rattle.std.proofs.Common.{◌≡◌, ℕ, ◌+◌, ◌*◌, ◌/◌, ◌%◌, ◌^◌, ◌<◌, List, [], ◌∷◌, Bool, true, cond, eqb, ltb, ℤ, Option, Some, None, refl, sym, ap, subst, ◌∙◌, arith}
 use Rattle.std.specs.Option.{option_and_then, option_map}
-use Rattle.std.proofs.lemmas.Bool.{eqb-true, eq-eqb}
-use Rattle.std.proofs.lemmas.Bool.Decides.{nat_tests}
+use Rattle.std.proofs.lemmas.Bool.{eqb-true}
 use Rattle.cil_base.specs.Token.{Token}
 use Rattle.cil_base.specs.Reading.{number_at, signed_at}
 use Rattle.cil_base.proofs.NumberLemmas.{strip-number_at, number_at-strip}
 use Rattle.cil_base.proofs.SignedLemmas.{strip-signed_at, signed_at-strip}
-use Rattle.sig_tree.specs.Symbols.{Symbol, Byte, Number, Signed, TypeToken, strip_symbol, strip_symbols, tag_of, coded_token}
-use Rattle.sig_tree.specs.Fronts.{after, wrap, table_of, token_of_number, type_token_at}
+use Rattle.sig_tree.specs.Symbols.{Number, Signed, TypeToken, strip_symbol, tag_of, coded_token}
+use Rattle.sig_tree.specs.Fronts.{table_of, token_of_number, type_token_at}
 use Rattle.sig_tree.proofs.Strips.{Exact, split, same_some, none_some, came, one, first_of_row, goes}
 
 pub number_exact : Exact ℕ number_at (λ n. Number n ∷ []) (λ n. true)

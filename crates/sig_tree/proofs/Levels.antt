@@ -1,30 +1,19 @@
 -- Types: what is read is what is stripped, level by level.
-use Rattle.std.proofs.Common.{◌≡◌, ℕ, suc, zero, ◌+◌, ◌-◌, ◌<◌, ◌≤◌, List, [], ◌∷◌, ◌++◌, Bool, true, false, cond, ◌&&◌, eqb, leb, ℤ, Option, Some, None, length, map, refl, sym, ap, subst, ◌∙◌, arith}
-use Rattle.std.specs.Option.{option_and_then, option_map}
-use Rattle.std.specs.List.{list_all}
-use Rattle.std.proofs.lemmas.Bool.{eqb-true, eq-eqb}
-use Rattle.std.proofs.lemmas.Bool.Decides.{nat_tests}
-use Rattle.std.proofs.lemmas.List.Folds.{list_all-map}
+use Rattle.std.proofs.Common.{◌≡◌, ℕ, suc, zero, ◌-◌, List, [], ◌∷◌, Bool, true, false, cond, eqb, Option, Some, None, refl, sym, ap, subst, ◌∙◌}
 use Rattle.cil_base.specs.Token.{Token}
-use Rattle.cil_base.specs.Reading.{number_at, signed_at}
-use Rattle.cil_base.proofs.NumberLemmas.{strip-number_at}
-use Rattle.sig_tree.specs.Symbols.{Symbol, Byte, Number, Signed, TypeToken, strip_symbol, strip_symbols}
-use Rattle.sig_tree.specs.Spelling.{in_order, counted, type_level, method_level, method_symbols, type_symbols}
-use Rattle.sig_tree.specs.Bounds.{is_prim, inside, within_level, method_within, type_fits, method_fits}
-use Rattle.sig_tree.specs.Fronts.{after, wrap, many_at, counted_at, type_token_at}
-use Rattle.sig_tree.specs.Parsing.{method_at, array_at, kind_at, inst_at, mod_at, wrapped_at, level_at, type_at}
+use Rattle.cil_base.specs.Reading.{number_at}
+use Rattle.sig_tree.specs.Symbols.{Byte, strip_symbols}
+use Rattle.sig_tree.specs.Spelling.{type_symbols}
+use Rattle.sig_tree.specs.Bounds.{is_prim, type_fits}
+use Rattle.sig_tree.specs.Fronts.{wrap, type_token_at}
+use Rattle.sig_tree.specs.Parsing.{method_at, array_at, inst_at, mod_at, wrapped_at, level_at, type_at}
 use Rattle.sig_tree.specs.declared.tree.TypeSig.{TypeSig}
 use Rattle.sig_tree.specs.declared.tree.TypeSig.TheVariants.{Prim, Ptr, ByRef, Value, Class, Var, MVar, SzArray, Array, Inst, FnPtr, Mod, Pinned}
 use Rattle.sig_tree.specs.declared.tree.TypeSig.TheOpen.{TypeSig-F}
 use Rattle.sig_tree.specs.declared.tree.TypeSig.TheViews.{roll-TypeSig, out-TypeSig, roll-out-TypeSig, rolls-Prim, rolls-Ptr, rolls-ByRef, rolls-Value, rolls-Class, rolls-Var, rolls-MVar, rolls-SzArray, rolls-Array, rolls-Inst, rolls-FnPtr, rolls-Mod, rolls-Pinned}
-use Rattle.sig_tree.specs.declared.tree.TypeSig.TheFolds.{fold-roll-TypeSig, fold_out-TypeSig, map-TypeSig}
 use Rattle.sig_tree.specs.declared.tree.MethodSig.{MethodSig}
-use Rattle.sig_tree.proofs.Rows.{map_length}
-use Rattle.sig_tree.proofs.Strips.{Exact, split, same_some, none_some, both, and, came, wrapped, goes, wraps, one, first_of_row, parts, follows, begin, begins_with, many_sound, many_full}
-use Rattle.sig_tree.proofs.Leaves.{number_exact, signed_exact, token_exact}
-use Rattle.sig_tree.proofs.Methods.{method_sound, method_full}
-use Rattle.sig_tree.proofs.Rolls.{row-of, fit-of, row-Inst, fit-Inst, fits_zero}
-use Rattle.sig_tree.proofs.Counts.{counted_exact, types_exact}
+use Rattle.sig_tree.proofs.Strips.{Exact, split, same_some, none_some, begin, begins_with}
+use Rattle.sig_tree.proofs.Rolls.{row-of, fit-of, fits_zero}
 use Rattle.sig_tree.proofs.Variants.{Exactly, TypeFound, Reached, at_byte, full-Array, full-ByRef, full-Class, full-FnPtr, full-Inst, full-MVar, full-Mod, full-Pinned, full-Ptr, full-SzArray, full-Value, full-Var, sound-Array, sound-ByRef, sound-Class, sound-FnPtr, sound-Inst, sound-MVar, sound-Mod, sound-Pinned, sound-Ptr, sound-SzArray, sound-Value, sound-Var}
 
 row-Prim : (code : ℕ) → type_symbols (Prim code) ≡ Byte code ∷ []

@@ -1,15 +1,15 @@
 -- Method signatures: what is read is what is stripped.
-use Rattle.std.proofs.Common.{◌≡◌, ◌≢◌, ℕ, suc, zero, ◌+◌, ◌*◌, ◌/◌, ◌%◌, ◌<◌, ◌≤◌, List, [], ◌∷◌, ◌++◌, Bool, true, false, cond, ◌&&◌, ◌||◌, eqb, ltb, leb, Option, Some, None, length, map, refl, sym, ap, subst, ◌∙◌, arith}
-use Rattle.std.specs.Option.{option_and_then, option_map}
+use Rattle.std.proofs.Common.{◌≡◌, ℕ, ◌+◌, ◌*◌, ◌/◌, ◌%◌, ◌<◌, List, [], ◌∷◌, ◌++◌, Bool, true, false, cond, ◌&&◌, eqb, ltb, Option, Some, None, length, map, refl, sym, ap, subst, ◌∙◌, arith}
+use Rattle.std.specs.Option.{option_map}
 use Rattle.std.specs.List.{list_all}
 use Rattle.std.proofs.lemmas.Bool.{eqb-true, eq-eqb}
 use Rattle.std.proofs.lemmas.Bool.Decides.{nat_tests}
 use Rattle.std.proofs.lemmas.List.Folds.{list_all-map}
 use Rattle.cil_base.specs.Reading.{number_at}
-use Rattle.sig_tree.specs.Symbols.{Symbol, Byte, Number, strip_symbol, strip_symbols}
-use Rattle.sig_tree.specs.Spelling.{arity_symbols, generic_flag, flag, convention_byte, method_level, method_symbols, type_symbols}
+use Rattle.sig_tree.specs.Symbols.{Byte, Number, strip_symbols}
+use Rattle.sig_tree.specs.Spelling.{arity_symbols, generic_flag, flag, convention_byte, method_symbols, type_symbols}
 use Rattle.sig_tree.specs.Bounds.{is_kind, has_place, type_fits, method_fits, method_within, within_level}
-use Rattle.sig_tree.specs.Fronts.{after, wrap}
+use Rattle.sig_tree.specs.Fronts.{after}
 use Rattle.sig_tree.specs.Parsing.{has_bit, is_convention, arity_at, params_at, method_of, convention_at, method_at}
 use Rattle.sig_tree.specs.declared.tree.Arity.{Arity}
 use Rattle.sig_tree.specs.declared.tree.Arity.TheVariants.{Plain as not_generic, Generic}
@@ -19,7 +19,7 @@ use Rattle.sig_tree.specs.declared.tree.TypeSig.{TypeSig}
 use Rattle.sig_tree.specs.declared.tree.MethodSig.{MethodSig}
 use Rattle.sig_tree.specs.declared.tree.TypeSig.TheFolds.{fold_out-MethodSig}
 use Rattle.sig_tree.proofs.Rows.{method_symbols-is, map_length}
-use Rattle.sig_tree.proofs.Strips.{Exact, split, same_some, none_some, both, and, came, wrapped, goes, wraps, one, first_of_row, parts, follows, begin, begins_with}
+use Rattle.sig_tree.proofs.Strips.{Exact, split, same_some, none_some, both, and, came, wrapped, goes, wraps, parts, follows, begin, begins_with}
 use Rattle.sig_tree.proofs.Leaves.{mapped, number_exact}
 use Rattle.sig_tree.proofs.Params.{Placed, rows, params_sound, params_full}
 

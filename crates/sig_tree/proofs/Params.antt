@@ -1,12 +1,11 @@
 -- Parameters with a sentinel before one of them: what is read is what is stripped.
-use Rattle.std.proofs.Common.{◌≡◌, ◌≢◌, ℕ, suc, zero, ◌+◌, ◌<◌, ◌≤◌, List, [], ◌∷◌, ◌++◌, Bool, true, false, cond, ◌&&◌, eqb, Option, Some, None, length, map, drop, refl, sym, ap, subst, ◌∙◌, arith}
-use Rattle.std.specs.Option.{option_and_then, option_map}
+use Rattle.std.proofs.Common.{◌≡◌, ◌≢◌, ℕ, suc, zero, ◌+◌, ◌<◌, ◌≤◌, List, [], ◌∷◌, ◌++◌, Bool, true, false, cond, eqb, Option, Some, None, length, map, drop, refl, sym, ap, subst, ◌∙◌, arith}
+use Rattle.std.specs.Option.{option_map}
 use Rattle.std.specs.List.{list_all}
 use Rattle.std.proofs.lemmas.Bool.{eqb-true, eq-eqb}
-use Rattle.std.proofs.lemmas.Bool.Decides.{nat_tests}
-use Rattle.sig_tree.specs.Symbols.{Symbol, Byte, strip_symbol, strip_symbols}
-use Rattle.sig_tree.specs.Spelling.{in_order, sentinel_at, sentinel_stands, with_sentinel, type_symbols}
-use Rattle.sig_tree.specs.Fronts.{after, wrap, many_at}
+use Rattle.sig_tree.specs.Symbols.{Symbol, Byte, strip_symbols}
+use Rattle.sig_tree.specs.Spelling.{in_order, sentinel_at, with_sentinel, type_symbols}
+use Rattle.sig_tree.specs.Fronts.{after, many_at}
 use Rattle.sig_tree.specs.Parsing.{begins, params_at}
 use Rattle.sig_tree.specs.declared.tree.Sentinel.{Sentinel}
 use Rattle.sig_tree.specs.declared.tree.Sentinel.TheVariants.{None as no_sentinel, Before}

@@ -1,28 +1,19 @@
 -- The folds over a type, at one level of it.
-use Rattle.std.proofs.Common.{◌≡◌, ℕ, suc, zero, ◌+◌, ◌-◌, ◌<◌, ◌≤◌, List, [], ◌∷◌, ◌++◌, Bool, true, false, cond, ◌&&◌, eqb, leb, ℤ, Option, Some, None, length, map, refl, sym, ap, subst, ◌∙◌, arith}
-use Rattle.std.specs.Option.{option_and_then, option_map}
+use Rattle.std.proofs.Common.{◌≡◌, ℕ, suc, ◌-◌, List, ◌∷◌, Bool, true, false, cond, ◌&&◌, leb, length, map, sym, ap, ◌∙◌, arith}
 use Rattle.std.specs.List.{list_all}
-use Rattle.std.proofs.lemmas.Bool.{eqb-true, eq-eqb}
 use Rattle.std.proofs.lemmas.Bool.Decides.{nat_tests}
 use Rattle.std.proofs.lemmas.List.Folds.{list_all-map}
 use Rattle.cil_base.specs.Token.{Token}
-use Rattle.cil_base.specs.Reading.{number_at, signed_at}
-use Rattle.cil_base.proofs.NumberLemmas.{strip-number_at}
-use Rattle.sig_tree.specs.Symbols.{Symbol, Byte, Number, Signed, TypeToken, strip_symbol, strip_symbols}
-use Rattle.sig_tree.specs.Spelling.{in_order, counted, type_level, method_level, method_symbols, type_symbols}
-use Rattle.sig_tree.specs.Bounds.{is_prim, inside, within_level, method_within, type_fits, method_fits}
-use Rattle.sig_tree.specs.Fronts.{after, wrap, many_at, counted_at, type_token_at}
-use Rattle.sig_tree.specs.Parsing.{method_at, array_at, kind_at, inst_at, mod_at, wrapped_at, level_at, type_at}
+use Rattle.sig_tree.specs.Symbols.{Symbol, Byte, Number, TypeToken}
+use Rattle.sig_tree.specs.Spelling.{in_order, type_level, method_level, method_symbols, type_symbols}
+use Rattle.sig_tree.specs.Bounds.{inside, within_level, method_within, type_fits, method_fits}
 use Rattle.sig_tree.specs.declared.tree.TypeSig.{TypeSig}
-use Rattle.sig_tree.specs.declared.tree.TypeSig.TheVariants.{Prim, Ptr, ByRef, Value, Class, Var, MVar, SzArray, Array, Inst, FnPtr, Mod, Pinned}
+use Rattle.sig_tree.specs.declared.tree.TypeSig.TheVariants.{Inst}
 use Rattle.sig_tree.specs.declared.tree.TypeSig.TheOpen.{TypeSig-F}
-use Rattle.sig_tree.specs.declared.tree.TypeSig.TheViews.{roll-TypeSig, out-TypeSig, roll-out-TypeSig, rolls-Prim, rolls-Ptr, rolls-ByRef, rolls-Value, rolls-Class, rolls-Var, rolls-MVar, rolls-SzArray, rolls-Array, rolls-Inst, rolls-FnPtr, rolls-Mod, rolls-Pinned}
+use Rattle.sig_tree.specs.declared.tree.TypeSig.TheViews.{roll-TypeSig, rolls-Inst}
 use Rattle.sig_tree.specs.declared.tree.TypeSig.TheFolds.{fold-roll-TypeSig, fold_out-TypeSig, map-TypeSig}
 use Rattle.sig_tree.specs.declared.tree.MethodSig.{MethodSig}
 use Rattle.sig_tree.proofs.Rows.{map_length}
-use Rattle.sig_tree.proofs.Strips.{Exact, split, same_some, none_some, both, and, came, wrapped, goes, wraps, one, first_of_row, parts, follows, begin, begins_with, many_sound, many_full}
-use Rattle.sig_tree.proofs.Leaves.{number_exact, signed_exact, token_exact}
-use Rattle.sig_tree.proofs.Methods.{method_sound, method_full}
 
 row-roll : (x : TypeSig-F TypeSig MethodSig) → type_symbols (roll-TypeSig x) ≡ type_level (map-TypeSig TypeSig MethodSig (List Symbol) (List Symbol) type_symbols method_symbols x)
 row-roll x = fold-roll-TypeSig (List Symbol) (List Symbol) type_level method_level x

@@ -1,7 +1,7 @@
 -- Facts about rows of symbols.
-use Rattle.std.proofs.Common.{◌≡◌, ◌==◌, ℕ, suc, ◌+◌, List, [], ◌∷◌, ◌++◌, Bool, true, false, ◌&&◌, refl, ap, sym, ◌∙◌, if◌then◌else◌, cond, length, map, unwrap_or}
+use Rattle.std.proofs.Common.{◌≡◌, ℕ, suc, ◌+◌, List, [], ◌∷◌, ◌++◌, Bool, true, false, ◌&&◌, refl, ap, sym, ◌∙◌, if◌then◌else◌, length, map, unwrap_or}
 use Rattle.std.proofs.lemmas.Grind.{flat_map-append}
-use Rattle.std.specs.List.{list_all, flat_map}
+use Rattle.std.specs.List.{list_all}
 use Rattle.std.proofs.lemmas.List.Folds.{list_all-append}
 use Rattle.sig_tree.specs.declared.tree.TypeSig.TheOpen.{MethodSig-F}
 use Rattle.sig_tree.specs.Symbols.{Symbol, Byte, Number, can_be_spelled, spelled, spelling_of}
@@ -9,7 +9,6 @@ use Rattle.sig_tree.specs.Spelling.{with_sentinel, sentinel_at, sentinel_stands,
 use Rattle.sig_tree.specs.declared.tree.TypeSig.TheFolds.{fold_out-MethodSig}
 use Rattle.sig_tree.specs.declared.tree.MethodSig.{MethodSig}
 use Rattle.sig_tree.specs.declared.tree.Sentinel.{Sentinel}
-use Rattle.sig_tree.specs.declared.tree.Sentinel.TheVariants.{None as no_sentinel, Before}
 
 pub list_all_append : {X : Type 0} (p : X → Bool) (xs ys : List X) → list_all p (xs ++ ys) ≡ (list_all p xs && list_all p ys)
 list_all_append p xs ys = list_all-append p xs ys

@@ -1,32 +1,20 @@
 -- What is stripped can be spelled.
-use Rattle.std.proofs.Common.{◌≡◌, ◌≢◌, ℕ, suc, zero, ◌+◌, ◌%◌, ◌^◌, ◌<◌, ◌≤◌, List, [], ◌∷◌, ◌++◌, Bool, true, false, cond, ◌&&◌, eqb, leb, ltb, ℤ, pos, negsuc, ◌-◌, Option, Some, None, is_some, length, map, refl, append_assoc, sym, ap, subst, ◌∙◌, arith, ◌⊎◌, inl, inr}
+use Rattle.std.proofs.Common.{◌≡◌, ℕ, ◌^◌, ◌<◌, ◌≤◌, List, [], ◌∷◌, Bool, true, false, cond, ◌&&◌, ltb, ℤ, pos, negsuc, ◌-◌, Option, Some, None, is_some, length, refl, sym, ap, ◌∙◌, arith, inl, inr}
 use Rattle.std.specs.Option.{option_and_then, option_map}
 use Rattle.std.specs.List.{list_all}
-use Rattle.std.proofs.lemmas.Bool.{eqb-true, eq-eqb}
 use Rattle.std.proofs.lemmas.Bool.Decides.{nat_tests}
-use Rattle.std.proofs.lemmas.List.Folds.{list_all-map}
 use Rattle.cil_base.specs.Token.{Token}
-use Rattle.cil_base.specs.Reading.{number_at, signed_at}
-use Rattle.cil_base.specs.Number.{strip_number, spelled_number, strip_form, one_byte, two_bytes, four_bytes}
+use Rattle.cil_base.specs.Number.{strip_number, spelled_number}
 use Rattle.cil_base.specs.Signed.{is_within, strip_signed, spelled_signed}
-use Rattle.cil_base.proofs.NumberLemmas.{forms, Stands, below}
-use Rattle.sig_tree.specs.Symbols.{Symbol, Byte, Number, Signed, TypeToken, strip_symbol, strip_symbols, coded_token, can_be_spelled, spelling_of}
-use Rattle.sig_tree.specs.Spelling.{arity_symbols, convention_byte, in_order, type_symbols, method_symbols, all_symbols, symbols, strip, with_sentinel, sentinel_at, flag}
-use Rattle.sig_tree.specs.Bounds.{is_kind, has_place, type_fits, method_fits, all_fit, fits, Bounded, depth_limit}
-use Rattle.sig_tree.specs.Reads.{is_plain, Reads, Parses}
-use Rattle.sig_tree.specs.Fronts.{after, wrap, many_at, counted_at}
-use Rattle.sig_tree.specs.Parsing.{is_convention, method_at, convention_at, type_at, whole, last_sentinel, ends_method, property_at, sort_at, tree_at}
-use Rattle.sig_tree.specs.declared.tree.Sentinel.{Sentinel}
-use Rattle.sig_tree.specs.declared.tree.Sentinel.TheVariants.{None as no_sentinel, Before}
-use Rattle.sig_tree.specs.declared.tree.TypeSig.{TypeSig}
+use Rattle.cil_base.proofs.NumberLemmas.{forms, below}
+use Rattle.sig_tree.specs.Symbols.{Symbol, Byte, Number, Signed, TypeToken, strip_symbol, strip_symbols, coded_token, can_be_spelled}
+use Rattle.sig_tree.specs.Spelling.{arity_symbols, type_symbols, method_symbols, all_symbols}
+use Rattle.sig_tree.specs.Bounds.{fits, depth_limit}
+use Rattle.sig_tree.specs.Parsing.{method_at, type_at}
 use Rattle.sig_tree.specs.declared.tree.MethodSig.{MethodSig}
-use Rattle.sig_tree.specs.declared.tree.SigTree.{SigTree}
-use Rattle.sig_tree.specs.declared.tree.SigTree.TheVariants.{Method, Field, Locals, Property, Inst as MethodInst, Plain}
-use Rattle.sig_tree.proofs.Strips.{Exact, split, same_some, none_some, both, and, came, wrapped, goes, wraps, one, first_of_row, parts, follows, begin, begins_with, many_sound, many_full}
-use Rattle.sig_tree.proofs.Leaves.{number_exact}
+use Rattle.sig_tree.proofs.Strips.{none_some, both, and, first_of_row}
 use Rattle.sig_tree.proofs.Rows.{method_spellable}
-use Rattle.sig_tree.proofs.Params.{rows, mark, not_at}
-use Rattle.sig_tree.proofs.Methods.{row-is, fits-is, method_sound, method_full}
+use Rattle.sig_tree.proofs.Methods.{method_sound}
 use Rattle.sig_tree.proofs.Levels.{type_exact}
 
 number_spells : (n : ℕ) (s r : List ℕ) → strip_number n s ≡ Some r → can_be_spelled (Number n) ≡ true

@@ -1,8 +1,7 @@
 -- What is spelled is stripped off again.
-use Rattle.std.proofs.Common.{◌≡◌, ℕ, ◌+◌, ◌*◌, ◌^◌, ◌<◌, List, [], ◌∷◌, ◌++◌, Bool, true, false, cond, eqb, ltb, ℤ, Option, Some, None, is_some, unwrap_or, refl, sym, ap, subst, ◌∙◌, arith, append_assoc}
+use Rattle.std.proofs.Common.{◌≡◌, ℕ, ◌+◌, ◌*◌, ◌^◌, ◌<◌, List, [], ◌∷◌, ◌++◌, Bool, true, false, cond, ltb, ℤ, Option, Some, None, is_some, unwrap_or, refl, ap, ◌∙◌, arith, append_assoc}
 use Rattle.std.specs.Option.{option_and_then, option_map}
-use Rattle.std.specs.List.{list_all, flat_map}
-use Rattle.std.proofs.lemmas.Bool.Decides.{nat_tests}
+use Rattle.std.specs.List.{list_all}
 use Rattle.cil_base.specs.Token.{Token}
 use Rattle.cil_base.specs.Number.{strip_number, spelled_number}
 use Rattle.cil_base.specs.Signed.{is_within, strip_signed, spelled_signed}

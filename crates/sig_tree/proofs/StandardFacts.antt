@@ -1,14 +1,13 @@
 -- The definitions at worked values: signatures spelled out by hand from ECMA-335 II.23.2.
-use Rattle.std.proofs.Common.{◌≡◌, refl, ap, ◌∙◌, ℕ, [], ◌∷◌, List, Option, Some, None, true, false, codes, pos, negsuc}
+use Rattle.std.proofs.Common.{◌≡◌, refl, ap, [], ◌∷◌, List, Some, None, true, false, codes, pos, negsuc}
 use Rattle.std.specs.List.{flat_map}
 use Rattle.cil_base.specs.Token.{Token}
 use Rattle.cil_base.specs.Number.{strip_number, spelled_number}
 use Rattle.cil_base.specs.Signed.{spelled_signed}
-use Rattle.sig_tree.specs.Symbols.{Symbol, Byte, Number, TypeToken, coded_token, spelling_of, spelled, strip_symbols}
+use Rattle.sig_tree.specs.Symbols.{Symbol, Byte, Number, coded_token, spelling_of, spelled, strip_symbols}
 use Rattle.sig_tree.specs.Spelling.{convention_byte, method_level, type_level, spell, strip}
 use Rattle.sig_tree.specs.Bounds.{is_prim, is_kind, has_place}
 use Rattle.sig_tree.specs.Printed.{type_pieces_level, piece_text, chars}
-use Rattle.sig_tree.specs.declared.piece.Piece.{Piece}
 use Rattle.sig_tree.specs.declared.tree.Arity.TheVariants.{Plain as not_generic, Generic}
 use Rattle.sig_tree.specs.declared.tree.Sentinel.TheVariants.{Before}
 use Rattle.sig_tree.specs.declared.tree.TypeSig.TheVariants.{Prim, Class}

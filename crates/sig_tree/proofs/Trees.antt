@@ -1,17 +1,13 @@
 -- Signatures of every sort: what is read is what is stripped, and nothing else.
-use Rattle.std.proofs.Common.{◌≡◌, ◌≢◌, ℕ, suc, zero, ◌+◌, ◌%◌, ◌^◌, ◌<◌, ◌≤◌, List, [], ◌∷◌, ◌++◌, Bool, true, false, cond, ◌&&◌, eqb, leb, ltb, ℤ, pos, negsuc, ◌-◌, Option, Some, None, is_some, length, map, refl, append_assoc, sym, ap, subst, ◌∙◌, arith, ◌⊎◌, inl, inr}
-use Rattle.std.specs.Option.{option_and_then, option_map}
+use Rattle.std.proofs.Common.{◌≡◌, ℕ, suc, ◌+◌, ◌%◌, List, [], ◌∷◌, ◌++◌, Bool, true, false, cond, ◌&&◌, eqb, leb, ltb, ◌-◌, Option, Some, None, length, map, refl, append_assoc, sym, ap, subst, ◌∙◌, arith}
+use Rattle.std.specs.Option.{option_and_then}
 use Rattle.std.specs.List.{list_all}
 use Rattle.std.proofs.lemmas.Bool.{eqb-true, eq-eqb}
 use Rattle.std.proofs.lemmas.Bool.Decides.{nat_tests}
 use Rattle.std.proofs.lemmas.List.Folds.{list_all-map}
-use Rattle.cil_base.specs.Token.{Token}
-use Rattle.cil_base.specs.Reading.{number_at, signed_at}
-use Rattle.cil_base.specs.Number.{strip_number, spelled_number, strip_form, one_byte, two_bytes, four_bytes}
-use Rattle.cil_base.specs.Signed.{is_within, strip_signed, spelled_signed}
-use Rattle.cil_base.proofs.NumberLemmas.{forms, Stands, below}
-use Rattle.sig_tree.specs.Symbols.{Symbol, Byte, Number, Signed, TypeToken, strip_symbol, strip_symbols, coded_token, can_be_spelled, spelling_of}
-use Rattle.sig_tree.specs.Spelling.{arity_symbols, convention_byte, in_order, type_symbols, method_symbols, all_symbols, symbols, strip, with_sentinel, sentinel_at, flag}
+use Rattle.cil_base.specs.Reading.{number_at}
+use Rattle.sig_tree.specs.Symbols.{Symbol, Byte, Number, strip_symbols}
+use Rattle.sig_tree.specs.Spelling.{arity_symbols, convention_byte, in_order, type_symbols, method_symbols, symbols, strip, with_sentinel, flag}
 use Rattle.sig_tree.specs.Bounds.{is_kind, has_place, type_fits, method_fits, all_fit, fits, Bounded, depth_limit}
 use Rattle.sig_tree.specs.Reads.{is_plain, Reads, Parses}
 use Rattle.sig_tree.specs.Fronts.{after, wrap, many_at, counted_at}
@@ -22,9 +18,8 @@ use Rattle.sig_tree.specs.declared.tree.TypeSig.{TypeSig}
 use Rattle.sig_tree.specs.declared.tree.MethodSig.{MethodSig}
 use Rattle.sig_tree.specs.declared.tree.SigTree.{SigTree}
 use Rattle.sig_tree.specs.declared.tree.SigTree.TheVariants.{Method, Field, Locals, Property, Inst as MethodInst, Plain}
-use Rattle.sig_tree.proofs.Strips.{Exact, split, same_some, none_some, both, and, came, wrapped, goes, wraps, one, first_of_row, parts, follows, begin, begins_with, many_sound, many_full}
+use Rattle.sig_tree.proofs.Strips.{split, same_some, none_some, both, and, came, wrapped, goes, wraps, parts, follows, begin, begins_with, many_sound, many_full}
 use Rattle.sig_tree.proofs.Leaves.{number_exact}
-use Rattle.sig_tree.proofs.Rows.{method_spellable}
 use Rattle.sig_tree.proofs.Params.{rows, mark, not_at}
 use Rattle.sig_tree.proofs.Methods.{row-is, fits-is, method_sound, method_full}
 use Rattle.sig_tree.proofs.Levels.{type_exact, sentinel_none}

@@ -1,29 +1,22 @@
 -- The variants of a type: what is read after the first byte is what is stripped.
-use Rattle.std.proofs.Common.{◌≡◌, ℕ, suc, zero, ◌+◌, ◌-◌, ◌<◌, ◌≤◌, List, [], ◌∷◌, ◌++◌, Bool, true, false, cond, ◌&&◌, eqb, leb, ℤ, Option, Some, None, length, map, refl, sym, ap, subst, ◌∙◌, arith}
-use Rattle.std.specs.Option.{option_and_then, option_map}
-use Rattle.std.specs.List.{list_all}
-use Rattle.std.proofs.lemmas.Bool.{eqb-true, eq-eqb}
-use Rattle.std.proofs.lemmas.Bool.Decides.{nat_tests}
-use Rattle.std.proofs.lemmas.List.Folds.{list_all-map}
+use Rattle.std.proofs.Common.{◌≡◌, ℕ, suc, ◌+◌, ◌-◌, List, [], ◌∷◌, ◌++◌, Bool, true, false, cond, eqb, ℤ, Option, Some, None, length, map, refl, sym, ap, subst, ◌∙◌}
+use Rattle.std.proofs.lemmas.Bool.{eqb-true}
 use Rattle.cil_base.specs.Token.{Token}
 use Rattle.cil_base.specs.Reading.{number_at, signed_at}
-use Rattle.cil_base.proofs.NumberLemmas.{strip-number_at}
-use Rattle.sig_tree.specs.Symbols.{Symbol, Byte, Number, Signed, TypeToken, strip_symbol, strip_symbols}
-use Rattle.sig_tree.specs.Spelling.{in_order, counted, type_level, method_level, method_symbols, type_symbols}
-use Rattle.sig_tree.specs.Bounds.{is_prim, inside, within_level, method_within, type_fits, method_fits}
-use Rattle.sig_tree.specs.Fronts.{after, wrap, many_at, counted_at, type_token_at}
-use Rattle.sig_tree.specs.Parsing.{method_at, array_at, kind_at, inst_at, mod_at, wrapped_at, level_at, type_at}
+use Rattle.sig_tree.specs.Symbols.{Symbol, Byte, Number, Signed, TypeToken, strip_symbols}
+use Rattle.sig_tree.specs.Spelling.{in_order, counted, method_symbols, type_symbols}
+use Rattle.sig_tree.specs.Bounds.{type_fits, method_fits}
+use Rattle.sig_tree.specs.Fronts.{after, wrap, counted_at, type_token_at}
+use Rattle.sig_tree.specs.Parsing.{method_at, array_at, kind_at, inst_at, mod_at, type_at}
 use Rattle.sig_tree.specs.declared.tree.TypeSig.{TypeSig}
-use Rattle.sig_tree.specs.declared.tree.TypeSig.TheVariants.{Prim, Ptr, ByRef, Value, Class, Var, MVar, SzArray, Array, Inst, FnPtr, Mod, Pinned}
+use Rattle.sig_tree.specs.declared.tree.TypeSig.TheVariants.{Ptr, ByRef, Value, Class, Var, MVar, SzArray, Array, Inst, FnPtr, Mod, Pinned}
 use Rattle.sig_tree.specs.declared.tree.TypeSig.TheOpen.{TypeSig-F}
-use Rattle.sig_tree.specs.declared.tree.TypeSig.TheViews.{roll-TypeSig, out-TypeSig, roll-out-TypeSig, rolls-Prim, rolls-Ptr, rolls-ByRef, rolls-Value, rolls-Class, rolls-Var, rolls-MVar, rolls-SzArray, rolls-Array, rolls-Inst, rolls-FnPtr, rolls-Mod, rolls-Pinned}
-use Rattle.sig_tree.specs.declared.tree.TypeSig.TheFolds.{fold-roll-TypeSig, fold_out-TypeSig, map-TypeSig}
+use Rattle.sig_tree.specs.declared.tree.TypeSig.TheViews.{rolls-Ptr, rolls-ByRef, rolls-Value, rolls-Class, rolls-Var, rolls-MVar, rolls-SzArray, rolls-Array, rolls-FnPtr, rolls-Mod, rolls-Pinned}
 use Rattle.sig_tree.specs.declared.tree.MethodSig.{MethodSig}
-use Rattle.sig_tree.proofs.Rows.{map_length}
-use Rattle.sig_tree.proofs.Strips.{Exact, split, same_some, none_some, both, and, came, wrapped, goes, wraps, one, first_of_row, parts, follows, begin, begins_with, many_sound, many_full}
+use Rattle.sig_tree.proofs.Strips.{Exact, split, same_some, none_some, came, wrapped, goes, wraps, parts, follows, begin, begins_with}
 use Rattle.sig_tree.proofs.Leaves.{number_exact, signed_exact, token_exact}
 use Rattle.sig_tree.proofs.Methods.{method_sound, method_full}
-use Rattle.sig_tree.proofs.Rolls.{row-of, fit-of, row-Inst, fit-Inst, fits_zero}
+use Rattle.sig_tree.proofs.Rolls.{row-of, fit-of, row-Inst, fit-Inst}
 use Rattle.sig_tree.proofs.Counts.{counted_exact, types_exact}
 
 -- a type that was read

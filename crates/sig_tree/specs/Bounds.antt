@@ -16,7 +16,7 @@ use Rattle.sig_tree.specs.declared.tree.TypeSig.TheFolds.{fold-TypeSig, fold-Met
 abbrev pub is_prim : ℕ → Bool
 is_prim code = (nat_le 0x01 code && nat_le code 0x0e) || (code == 0x16) || (code == 0x18) || (code == 0x19) || (code == 0x1c)
 
--- the calling conventions 0 to 5, and 9
+-- the calling conventions 0 to 5 (ECMA-335 II.23.2.1 to II.23.2.3), and 9, which unmanaged code has beside them
 abbrev pub is_kind : ℕ → Bool
 is_kind kind = nat_le kind 5 || (kind == 9)
 

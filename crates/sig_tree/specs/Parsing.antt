@@ -1,7 +1,6 @@
 -- Types, methods and signatures by the bytes: the parser's own words. No public contract cites them.
-use Rattle.std.specs.Prelude.{◌≡◌, ℕ, zero, suc, ◌+◌, ◌-◌, ◌/◌, ◌%◌, ◌^◌, ◌==◌, ℤ, List, [], ◌∷◌, ◌++◌, Option, Some, None, Bool, true, false, ◌&&◌, nat_lt, drop, length, option_map, option_and_then, if◌then◌else◌}
+use Rattle.std.specs.Prelude.{◌≡◌, ℕ, zero, suc, ◌+◌, ◌/◌, ◌%◌, ◌==◌, List, [], ◌∷◌, ◌++◌, Option, Some, None, Bool, true, false, ◌&&◌, nat_lt, drop, length, option_map, option_and_then, if◌then◌else◌}
 use Rattle.std.specs.Borrow.{Bor}
-use Rattle.cil_base.specs.Token.{Token}
 use Rattle.cil_base.specs.Reading.{number_at, signed_at}
 use Rattle.sig_tree.specs.Bounds.{is_prim, is_kind, depth_limit}
 use Rattle.sig_tree.specs.Fronts.{after, wrap, many_at, counted_at, type_token_at}

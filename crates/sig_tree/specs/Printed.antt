@@ -1,9 +1,8 @@
 -- The printed form of a signature, as characters and names of types, in order.
-use Rattle.std.specs.Prelude.{ℕ, ◌/◌, ◌%◌, ◌^◌, ◌==◌, ℤ, List, [], ◌∷◌, ◌++◌, Bool, true, false, codes, map, nat_le, if◌then◌else◌}
+use Rattle.std.specs.Prelude.{ℕ, List, [], ◌∷◌, ◌++◌, Bool, true, false, codes, map, if◌then◌else◌}
 use Rattle.std.specs.List.{flat_map}
 use Rattle.std.specs.Fmt.{decimal, signed_decimal}
-use Rattle.cil_base.specs.Token.{Token}
-use Rattle.cil_base.specs.Escape.{hex_pair}
+use Rattle.cil_base.specs.Token.{Token, token_text}
 use Rattle.sig_tree.specs.Spelling.{with_sentinel}
 use Rattle.sig_tree.specs.Names.{prim_name, kind_name}
 use Rattle.sig_tree.specs.declared.piece.Piece.{Piece}
@@ -75,13 +74,9 @@ pieces (Property this t params) =
 pieces (MethodInst args) = chars (codes "inst<") ++ types_pieces args ++ chars (codes ">")
 pieces (Plain t) = type_pieces t
 
--- a token is printed as two and six lower-case hex digits
-abbrev pub token_text : Token → List ℕ
-token_text t = hex_pair t.table ++ hex_pair (t.rid / 2 ^ 16) ++ hex_pair (t.rid / 2 ^ 8 % 2 ^ 8) ++ hex_pair (t.rid % 2 ^ 8)
-
 abbrev pub piece_text : Piece → List ℕ
 piece_text (Char c) = c ∷ []
-piece_text (Name t) = token_text t
+piece_text (Name t) = token_text t.table t.rid
 
 -- the text, with each token in the place of its type's name
 abbrev pub printed : SigTree → List ℕ

@@ -1,5 +1,5 @@
 -- Which signature a blob reads as.
-use Rattle.std.specs.Prelude.{◌≡◌, ℕ, List, [], Option, Some, None, Bool, true, false, not}
+use Rattle.std.specs.Prelude.{◌≡◌, ℕ, List, [], Option, Some, None, Bool, true, false}
 use Rattle.sig_tree.specs.Spelling.{strip}
 use Rattle.sig_tree.specs.Bounds.{Bounded}
 use Rattle.sig_tree.specs.declared.tree.SigTree.{SigTree}

@@ -1,6 +1,5 @@
 -- A signature with other type tokens in the places of its own, in the order in which they are printed.
-use Rattle.std.specs.Prelude.{◌≡◌, ℕ, List, [], ◌∷◌, Bool, map, drop, is_some}
-use Rattle.std.specs.List.{list_all}
+use Rattle.std.specs.Prelude.{◌≡◌, List, [], ◌∷◌, Bool, map, drop, is_some}
 use Rattle.std.specs.Borrow.{Bor}
 use Rattle.cil_base.specs.Token.{Token}
 use Rattle.sig_tree.specs.Symbols.{tag_of}

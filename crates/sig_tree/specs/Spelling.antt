@@ -1,7 +1,6 @@
 -- The symbols of a signature, sort by sort: ECMA-335 II.23.2.
-use Rattle.std.specs.Prelude.{ℕ, ◌+◌, ◌%◌, ◌==◌, ℤ, List, [], ◌∷◌, ◌++◌, Option, Bool, false, length, map, if◌then◌else◌}
+use Rattle.std.specs.Prelude.{ℕ, ◌+◌, ◌%◌, ◌==◌, List, [], ◌∷◌, ◌++◌, Option, Bool, false, length, map, if◌then◌else◌}
 use Rattle.std.specs.List.{flat_map}
-use Rattle.cil_base.specs.Token.{Token}
 use Rattle.sig_tree.specs.Symbols.{Symbol, Byte, Number, Signed, TypeToken, strip_symbols, spelled}
 use Rattle.sig_tree.specs.declared.tree.Arity.{Arity}
 use Rattle.sig_tree.specs.declared.tree.Arity.TheVariants.{Plain as not_generic, Generic}

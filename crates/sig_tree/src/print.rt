@@ -1,6 +1,5 @@
 ghost use Rattle.std.specs.Prelude.{◌≡◌, ◌++◌, ◌<◌, length, OnOk, IfOk};
-ghost use Rattle.cil_base.specs.Escape.{hex_pair, lower_hex};
-ghost use Rattle.sig_tree.specs.Printed.{printed, tokens, named, token_text, piece_text, filled};
+ghost use Rattle.sig_tree.specs.Printed.{printed, tokens, named, piece_text, filled};
 
 use crate::piece::Piece;
 use crate::pieces::sig_pieces;
@@ -68,34 +67,6 @@ fn add_piece(piece: &Piece, out: &mut Bytes) -> Result<(), NoMemory>
 {
     match piece {
         Piece::Char(c) => out.push(*c),
-        Piece::Name(of) => add_token(of, out),
-    }
-}
-
-/// A token as two and six hex digits.
-fn add_token(of: &Token, out: &mut Bytes) -> Result<(), NoMemory>
-    ensures { OnOk result (out.new ≡ out.old ++ token_text of.now) }
-{
-    add_hex(of.table, out)?;
-    add_hex((of.rid / 0x1_0000) as u8, out)?;
-    add_hex((of.rid / 0x100 % 0x100) as u8, out)?;
-    add_hex((of.rid % 0x100) as u8, out)
-}
-
-fn add_hex(byte: u8, out: &mut Bytes) -> Result<(), NoMemory>
-    ensures { OnOk result (out.new ≡ out.old ++ hex_pair byte) }
-{
-    out.extend(&[hex_digit(byte / 16), hex_digit(byte % 16)])
-}
-
-/// The lower-case hex digit of a number below 16.
-fn hex_digit(value: u8) -> u8
-    requires { value < 16 }
-    ensures { result ≡ lower_hex value }
-{
-    if value < 10 {
-        b'0' + value
-    } else {
-        b'a' - 10 + value
+        Piece::Name(of) => out.extend(&of.hex_digits()),
     }
 }

@@ -34,7 +34,7 @@ impl Model for Sig {
 
 impl Sig {
     /// The signature of a tree. None exactly where its depth passes 64, a number cannot be spelled, a type token is not of
-    /// TypeDef, TypeRef or TypeSpec, a code is none of the standard's, or a sentinel stands past the parameters, or after
+    /// TypeDef, TypeRef or TypeSpec, a code is none of those that are read, or a sentinel stands past the parameters, or after
     /// the last one of a function pointer (ECMA-335 II.23.2).
     pub fn of(tree: SigTree) -> Option<Sig>
         ensures exactly { IsSome result ↔ Bounded tree }

@@ -1,5 +1,4 @@
-use Rattle.std.proofs.Common.{◌≡◌, map, drop}
-use Rattle.std.specs.List.{list_all}
+use Rattle.std.proofs.Common.{◌≡◌, drop}
 use Rattle.sig_tree.specs.Bounds.{all_fit}
 use Rattle.sig_tree.proofs.bounds.+within.Given as goal
 

@@ -1,4 +1,3 @@
-use Rattle.std.proofs.Common.{◌≡◌}
 use Rattle.sig_tree.proofs.Trees.{one_reading}
 use Rattle.sig_tree.proofs.laws.one_reading.Goals as goal
 

@@ -1,4 +1,3 @@
-use Rattle.std.proofs.Common.{◌≡◌}
 use Rattle.sig_tree.specs.Spelling.{symbols}
 use Rattle.sig_tree.proofs.SpelledBack.{spelled_back}
 use Rattle.sig_tree.proofs.laws.spelling_is_read_back.Goals as goal

@@ -1,4 +1,4 @@
-use Rattle.std.proofs.Common.{◌≡◌, Some, None, rules, arith}
+use Rattle.std.proofs.Common.{◌≡◌, Some, None, rules}
 use Rattle.sig_tree.specs.Parsing.{tree_at}
 use Rattle.sig_tree.proofs.Trees.{parses, tree_bounded}
 use Rattle.sig_tree.proofs.parse.parse_sig.Goals as goal

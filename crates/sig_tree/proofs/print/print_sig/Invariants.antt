@@ -1,4 +1,4 @@
-use Rattle.std.proofs.Common.{◌≡◌, ◌++◌, take}
+use Rattle.std.proofs.Common.{◌≡◌, take}
 use Rattle.std.specs.List.{flat_map}
 use Rattle.sig_tree.specs.Printed.{piece_text}
 use Rattle.sig_tree.proofs.print.print_sig.Given as goal

@@ -1,8 +1,7 @@
-use Rattle.std.proofs.Common.{◌≡◌, ℤ, w32, ◌+◌, ◌-◌, sym, ◌∙◌, rules, arith}
+use Rattle.std.proofs.Common.{w32, ◌-◌, rules, arith}
 use Rattle.std.proofs.lemmas.Grind.{common_steps}
 use Rattle.std.proofs.lemmas.Int.{to_z-of_z}
 use mir.Val.{SFits}
-use Rattle.cil_base.specs.Reading.{signed_at}
 use Rattle.sig_tree.proofs.Fuel.{fronted_more}
 use Rattle.sig_tree.proofs.read_number.read_lows.Goals as goal
 

@@ -1,6 +1,5 @@
-use Rattle.std.proofs.Common.{◌≡◌, ◌<◌, ◌-◌, suc, sym, ◌∙◌, rules, arith}
-use Rattle.sig_tree.specs.Fronts.{many_at, fronted}
-use Rattle.sig_tree.specs.Parsing.{type_at, level_at, params_at, marked}
+use Rattle.std.proofs.Common.{◌≡◌, ◌<◌, ◌-◌, suc, sym, ◌∙◌, arith}
+use Rattle.sig_tree.specs.Parsing.{type_at}
 use Rattle.sig_tree.proofs.Fuel.{type_at_step, params_marked}
 use Rattle.sig_tree.proofs.read_type.+read.Goals as goal
 
