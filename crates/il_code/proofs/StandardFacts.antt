@@ -4,13 +4,14 @@ use Rattle.std.specs.Prelude.{codes}
 use Rattle.cil_base.specs.Token.{root}
 use Rattle.il_code.specs.declared.kind.OperandKind.TheVariants as kind
 use Rattle.il_code.specs.declared.operand.Operand.TheVariants as of
+use Rattle.il_code.specs.declared.handler.HandlerKind.TheVariants.{Finally, Fault}
 use Rattle.il_code.specs.Kinds.{kind_of}
-use Rattle.il_code.specs.Numbers.{number_at, target_at, within}
+use Rattle.il_code.specs.Numbers.{number_at, target_at, token_of, within}
 use Rattle.il_code.specs.Code.{at, instr_of, code_at, code_size, size_of, operand_at, instr_at}
 use Rattle.il_code.specs.Names.{name_of}
 use Rattle.il_code.specs.Layout.{layout, laid, header_bytes, code_bytes, instr_bytes, op_bytes, operand_bytes, section_bytes, clause_bytes}
 use Rattle.il_code.specs.Refusal.{is_past}
-use Rattle.il_code.specs.Sections.{tiny, header_at, aligned}
+use Rattle.il_code.specs.Sections.{tiny, fat_at, header_at, handler_kind, aligned}
 
 pub leave-is_long : kind_of 0xDD ≡ Some kind.Branch
 unfolding kind_of
@@ -39,6 +40,19 @@ header_06-is_tiny = refl
 pub tiny_06-has_one_byte : (tiny 0x06).size ≡ 1
 unfolding tiny
 tiny_06-has_one_byte = refl
+
+-- 3013 is the fat form with InitLocals and without sections
+pub header_3013-has_init_locals : header_at (0x13 ∷ 0x30 ∷ 0x02 ∷ 0 ∷ 1 ∷ 0 ∷ 0 ∷ 0 ∷ 0x05 ∷ 0 ∷ 0 ∷ 0x11 ∷ []) ≡ Some (record { start = 12; size = 1; max_stack = 2; init_locals = true; locals = record { table = 0x11; rid = 5 }; sections = false })
+unfolding header_at fat_at number_at token_of
+header_3013-has_init_locals = refl
+
+pub clause_2-is_finally : handler_kind 2 0 ≡ Some Finally
+unfolding handler_kind
+clause_2-is_finally = refl
+
+pub clause_4-is_fault : handler_kind 4 0 ≡ Some Fault
+unfolding handler_kind
+clause_4-is_fault = refl
 
 -- FE is -2: a short branch to itself
 pub branch_FE-is_back_by_two : target_at (0x2B ∷ 0xFE ∷ []) (2 ^ 7) 2 0xFE ≡ Some 0

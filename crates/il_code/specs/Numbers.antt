@@ -23,7 +23,7 @@ target_at b half after n =
     if nat_lt n half then within b (after + n)
     else (if nat_lt (after + n) (2 * half) then None else within b (after + n - 2 * half))
 
--- the token of four bytes: the table is the highest, the row the others
+-- the token of four bytes: the table is the highest, the row the others (III.1.9)
 unfoldable pub token_of : ℕ → Token
 token_of n = record { table = n / 2 ^ 24; rid = n % 2 ^ 24 }
 
