@@ -1,4 +1,4 @@
--- The keys of an image, by its bytes.
+-- The keys of an image, by its bytes. Rows are those that the header of the tables counts (ECMA-335 II.24.2.6).
 use Rattle.std.specs.Prelude.{ℕ, Bool, List, nat_lt, nat_le, ◌==◌, ◌&&◌}
 use Rattle.cil_base.specs.Token.{Token}
 use Rattle.pe_image.specs.Rows.{row_count}
