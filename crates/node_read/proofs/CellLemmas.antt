@@ -1,5 +1,5 @@
 -- Where the cells of a thin image stand.
-use Rattle.std.proofs.Common.{◌≡◌, refl, sym, ◌∙◌, ap, ℕ, ◌+◌, ◌-◌, ◌*◌, ◌^◌, Bool, true, false, List, [], take, add-zero, unwrap_or, slice_get, nat_lt, arith, if◌then◌else◌, ◌&&◌, rules}
+use Rattle.std.proofs.Common.{◌≡◌, refl, sym, ◌∙◌, ap, ℕ, ◌+◌, ◌-◌, ◌*◌, ◌^◌, Bool, true, false, List, [], take, add-zero, unwrap_or, slice_get, nat_lt, arith, if◌then◌else◌, ◌&&◌}
 use Rattle.byteorder.specs.Endian.{little_from}
 use Rattle.pe_image.specs.Places.{u16_at, u32_at}
 use Rattle.pe_image.specs.Rows.{heap_sizes, row_count, rows_place}

@@ -1,4 +1,4 @@
 mod Bits
-mod ThinRows
-mod CellLemmas
-mod SlotLemmas
+pub mod ThinRows
+pub mod CellLemmas
+pub mod SlotLemmas

@@ -1,7 +1,7 @@
 -- The rows of a thin image, cell by cell.
-use Rattle.std.proofs.Common.{◌≡◌, refl, sym, ◌∙◌, ap, zero, suc, ℕ, ◌+◌, ◌*◌, ◌/◌, ◌%◌, ◌^◌, ◌<◌, ◌≤◌, ◌++◌, ◌∷◌, [], Bool, true, false, cond, List, Option, Some, None, option_map, nat_lt, nat_le, arith, if◌then◌else◌, ◌&&◌, ◌==◌, is_none, slice_get}
+use Rattle.std.proofs.Common.{◌≡◌, refl, sym, ◌∙◌, ap, zero, suc, ℕ, ◌+◌, ◌/◌, ◌%◌, ◌<◌, ◌++◌, ◌∷◌, [], Bool, true, false, cond, List, Option, Some, None, option_map, nat_le, arith, if◌then◌else◌, ◌&&◌, ◌==◌, is_none, slice_get}
 use Rattle.cil_base.specs.Token.{Token}
-use Rattle.md_heaps.specs.Entries.{text, guid}
+use Rattle.md_heaps.specs.Entries.{guid}
 use Rattle.pe_image.specs.Places.{u16_at, u32_at}
 use Rattle.pe_image.specs.Rows.{row_count}
 use Rattle.node_model.specs.Columns.{Column, type_tables}
@@ -12,12 +12,12 @@ use Rattle.node_model.specs.RowFaults.{row_fault}
 use Rattle.node_model.specs.declared.cell.Cell.{Cell}
 use Rattle.node_model.specs.declared.cell.Cell.TheVariants as cells
 use Rattle.node_model.specs.declared.slot.Slot.{Slot}
-use Rattle.node_read.specs.Rows.{Describes, type_width}
+use Rattle.node_read.specs.Rows.{Describes}
 use Rattle.node_read.specs.Shown.{fault, module_at, module_of, row, text_cell, type_at, type_cell, type_of}
 use Rattle.node_read.specs.declared.rows.Rows.{Rows}
 use Rattle.node_read.proofs.CellLemmas as at
 use Rattle.node_read.proofs.CellLemmas.{module_cell}
-use Rattle.node_read.proofs.ThinRows.{passes, fails}
+use Rattle.node_read.proofs.ThinRows.{fails}
 
 -- the first of four tests that holds
 pub first_of_four : (a b c d : Bool) (i j k l : ℕ × Column) (f : Option ℕ → Slot)

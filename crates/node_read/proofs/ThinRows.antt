@@ -1,5 +1,5 @@
 -- What the header of a thin `#~` says, for each value of Valid that it may have.
-use Rattle.std.proofs.Common.{◌≡◌, refl, sym, subst, lit<, ◌∙◌, ℕ, ◌+◌, ◌*◌, ◌^◌, ◌<◌, ◌≤◌, Bool, true, false, List, Option, Some, None, nat_lt, nat_le, length, arith, if◌then◌else◌, ◌&&◌, ◌||◌, not, ◌==◌, is_ok, [], ◌∷◌, rules}
+use Rattle.std.proofs.Common.{◌≡◌, refl, sym, subst, lit<, ◌∙◌, ℕ, ◌+◌, ◌*◌, ◌^◌, ◌<◌, ◌≤◌, Bool, true, false, List, Some, None, nat_lt, nat_le, length, arith, ◌&&◌, ◌||◌, not, ◌==◌, is_ok, [], ◌∷◌}
 use Rattle.std.specs.List.{list_all, range_with_len}
 use Rattle.std.proofs.lemmas.Bool.{le-leb}
 use Rattle.std.proofs.lemmas.Bool.Decides.{leb_tells}
@@ -7,10 +7,9 @@ use Rattle.std.proofs.Common.{inl, inr, ◌≢◌}
 use Rattle.std.proofs.Math.Bool.{and-false}
 use Rattle.node_read.proofs.Bits.{has_bit, no_other, thin_bit}
 use Rattle.pe_image.specs.Places.{u32_at, u64_at, first}
-use Rattle.pe_image.specs.Rows.{is_valid, rows_place, tables_before, row_count, rows_size, unsupported, has_rows, rows_conditions, has_header, heap_sizes, RowsRefusal, BadTables}
+use Rattle.pe_image.specs.Rows.{is_valid, rows_place, tables_before, row_count, rows_size, unsupported, has_rows, rows_conditions, heap_sizes, BadTables}
 use Rattle.pe_image.specs.Thin.{thin_width, has_thin_rows}
-use Rattle.node_read.specs.Rows.{Counts, Describes, fits, type_width}
-use Rattle.node_read.specs.declared.rows.Rows.{Rows}
+use Rattle.node_read.specs.Rows.{Counts, fits, type_width}
 
 -- the other tables have no bit
 abbrev pub is_clear : List ℕ → Bool

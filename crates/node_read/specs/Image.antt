@@ -1,4 +1,4 @@
--- What opening a file answers, and what an opened image keeps.
+-- What opening a file answers, and what an opened image keeps: ECMA-335 II.24.2, II.25.
 use Rattle.std.specs.Prelude.{◌≡◌, ℕ, List, Result, Ok, Err, true, false}
 use Rattle.pe_image.specs.Layout.{layout}
 use Rattle.pe_image.specs.Streams.{stream}

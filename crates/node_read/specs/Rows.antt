@@ -1,4 +1,4 @@
--- The rows of a thin image as they are kept: where they begin, and how many each table has.
+-- The rows of a thin image as they are kept: where they begin, and how many each table has. ECMA-335 II.24.2.6.
 use Rattle.std.specs.Prelude.{◌≡◌, ◌≢◌, ℕ, ◌+◌, ◌*◌, ◌^◌, ◌<◌, ◌≤◌, Bool, true, false, List, Option, Some, None, length, nat_lt, nat_le, ◌&&◌, if◌then◌else◌}
 use Rattle.pe_image.specs.Rows.{heap_sizes, row_count, rows_place}
 use Rattle.pe_image.specs.Thin.{has_thin_rows}

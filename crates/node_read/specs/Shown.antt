@@ -1,10 +1,9 @@
--- Rows by the cells at their places, as the code finds them.
+-- Rows by the cells at their places, as the code finds them: ECMA-335 II.22.30, II.22.37, II.24.2.6.
 use Rattle.std.specs.Prelude.{ℕ, ◌+◌, ◌/◌, ◌%◌, ◌^◌, List, [], ◌∷◌, Option, Some, None, option_map, nat_le, nat_lt, ◌==◌, ◌&&◌, if◌then◌else◌}
 use Rattle.cil_base.specs.Token.{Token}
 use Rattle.md_heaps.specs.Entries.{text, guid}
 use Rattle.pe_image.specs.Places.{u16_at, u32_at}
 use Rattle.node_model.specs.Entries.{Parts, guid_cell}
-use Rattle.node_model.specs.Immediate.{row_slot}
 use Rattle.node_model.specs.declared.cell.Cell.{Cell}
 use Rattle.node_model.specs.declared.cell.Cell.TheVariants as cells
 use Rattle.node_model.specs.declared.key.Key.TheVariants.{Row}

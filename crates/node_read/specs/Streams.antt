@@ -1,4 +1,4 @@
--- The streams of a thin image as the code holds them.
+-- The streams of a thin image as the code holds them: ECMA-335 II.24.2.2.
 use Rattle.node_model.specs.Entries.{Parts}
 use Rattle.node_read.specs.declared.streams.Streams.{Streams}
 use Rattle.node_read.specs.Rows.{Opened}

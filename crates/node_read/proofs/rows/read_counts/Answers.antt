@@ -1,4 +1,4 @@
-use Rattle.std.proofs.Common.{rules, ◌≡◌, ◌<◌, ◌^◌, subst}
+use Rattle.std.proofs.Common.{rules, ◌≡◌}
 use Rattle.pe_image.specs.Places.{u32_at, u64_at}
 use Rattle.node_read.proofs.ThinRows.{header-0, header-1, header-4, header-5, counted, short, no_header, wide, other}
 use Rattle.node_read.proofs.rows.read_counts.Goals as goal

@@ -1,4 +1,4 @@
-use Rattle.std.proofs.Common.{sym, ap, ◌∙◌}
+use Rattle.std.proofs.Common.{sym}
 use Rattle.node_read.proofs.CellLemmas.{type_place}
 use Rattle.node_read.proofs.streams.type_place.Goals as goal
 
