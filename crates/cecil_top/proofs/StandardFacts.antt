@@ -1,7 +1,8 @@
 -- The definitions at worked values: tokens, cells and replies as they are printed, and words of a command line.
 use Rattle.std.proofs.Common.{◌≡◌, refl, ◌∷◌, [], Some, None, codes}
 use Rattle.std.specs.Fmt.{digits}
-use Rattle.cecil_top.specs.Texts.{cell_name, quoted, reply_text, token_text}
+use Rattle.cil_base.specs.Token.{token_text}
+use Rattle.cecil_top.specs.Texts.{cell_name, quoted, reply_text}
 use Rattle.cecil_top.specs.Words.{file_name}
 use Rattle.node_model.specs.declared.cell.Cell.TheVariants as cells
 use Rattle.node_model.specs.declared.key.Key.TheVariants as keys

@@ -1,8 +1,9 @@
 -- How a reply is printed: a row with its table, its token and its cells, or why there is none.
-use Rattle.std.specs.Prelude.{ℕ, ◌/◌, ◌%◌, List, [], ◌∷◌, ◌++◌, codes, ◌==◌, if◌then◌else◌, unwrap_or, slice_get, map, filter}
+use Rattle.std.specs.Prelude.{ℕ, List, [], ◌∷◌, ◌++◌, codes, ◌==◌, if◌then◌else◌, unwrap_or, slice_get, map, filter}
 use Rattle.std.specs.List.{flat_map, enumerate_from}
 use Rattle.std.specs.Fmt.{decimal}
-use Rattle.cil_base.specs.Escape.{escaped, hex_pair}
+use Rattle.cil_base.specs.Escape.{escaped}
+use Rattle.cil_base.specs.Token.{token_text}
 use Rattle.uuid.specs.Text.{hyphenated_text, lower}
 use Rattle.uuid.specs.Parts.{swap_fields}
 use Rattle.node_model.specs.Columns.{columns, is_cell}
@@ -17,14 +18,10 @@ use Rattle.node_model.specs.declared.slot.Fault.{Fault}
 use Rattle.node_model.specs.declared.slot.FaultKind.{FaultKind}
 use Rattle.node_model.specs.declared.slot.FaultKind.TheVariants as kinds
 
--- a token: two and six lower-case hex digits
-abbrev pub token_text : ℕ → ℕ → List ℕ
-token_text t rid = hex_pair t ++ hex_pair (rid / 65536) ++ hex_pair (rid / 256 % 256) ++ hex_pair (rid % 256)
-
 abbrev pub quoted : List ℕ → List ℕ
 quoted text = 0x22 ∷ escaped text ++ 0x22 ∷ []
 
--- the first three fields of a stored GUID have their lowest byte first, and are printed with the highest first
+-- the first three fields of a stored GUID have their lowest byte first (ECMA-335 II.24.2.5), and are printed with the highest first
 abbrev pub guid_text : List ℕ → List ℕ
 guid_text bytes = hyphenated_text lower (swap_fields bytes)
 
@@ -36,6 +33,7 @@ cell_text cells.NoGuid = codes "none"
 cell_text (cells.Ref t) = token_text t.table t.rid
 cell_text cells.NoRef = codes "none"
 
+-- the names of the tables of a thin image (ECMA-335 II.22.30, II.22.37)
 abbrev pub table_name : ℕ → List ℕ
 table_name t = if t == 0 then codes "Module" else (if t == 2 then codes "TypeDef" else codes "?")
 

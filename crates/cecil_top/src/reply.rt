@@ -1,9 +1,10 @@
 ghost use Rattle.std.specs.Prelude.{◌≡◌, ◌++◌, IfOk, OnOk, codes};
 ghost use Rattle.std.specs.Fmt.{decimal};
-ghost use Rattle.cecil_top.specs.Texts.{cells_text, fault_text, key_text, kind_text, named_cell, reply_text, row_text, token_text};
+ghost use Rattle.cil_base.specs.Token.{token_text};
+ghost use Rattle.cecil_top.specs.Texts.{cells_text, fault_text, key_text, kind_text, named_cell, reply_text, row_text};
 
 use crate::cell_name::{cell_name, table_name};
-use crate::text::{add_cell, add_decimal, add_token};
+use crate::text::{add_cell, add_decimal};
 use cil_base::{Bytes, List, NoMemory, Token};
 use node_model::{Cell, Fault, FaultKind, Key, Reply, RowValue};
 use std::alloc::Global;
@@ -13,7 +14,7 @@ fn start(alloc: Global, word: &[u8], token: Token) -> Result<Bytes, NoMemory>
     ensures { IfOk result (λ text. text ≡ word.now ++ token_text token.table token.rid) }
 {
     let mut text = List::from_slice(alloc, word)?;
-    add_token(&mut text, token)?;
+    text.extend(&token.hex_digits())?;
     Ok(text)
 }
 
@@ -44,7 +45,7 @@ fn row_text(alloc: Global, row: &RowValue) -> Result<Bytes, NoMemory>
     let token = row.token;
     let mut text = List::from_slice(alloc, table_name(token.table))?;
     text.push(b' ')?;
-    add_token(&mut text, token)?;
+    text.extend(&token.hex_digits())?;
     add_cells(&mut text, token.table, row.cells.as_slice())?;
     Ok(text)
 }

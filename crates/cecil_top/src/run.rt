@@ -1,4 +1,4 @@
-ghost use Rattle.std.specs.Prelude.{◌≡◌, ◌⊎◌, ◌↔◌, Err, IfErr, IfOk, IfSome, None, Some, map, string_bytes};
+ghost use Rattle.std.specs.Prelude.{◌≡◌, ◌≤◌, ◌⊎◌, ◌↔◌, Err, IfErr, IfOk, IfSome, None, Some, map, string_bytes};
 ghost use Rattle.cil_outside.specs.Causes.{Rose};
 ghost use Rattle.cecil_top.specs.Inspect.{Answers, Completes, Writes, held, told};
 ghost use Rattle.cecil_top.specs.Steps.{Ends, IsDump, Sends};
@@ -31,6 +31,8 @@ fn prepare<F: Folder>(alloc: Global, folder: &mut F, name: &str) -> Result<Bytes
     ensures text { IfOk result (λ text. IsDump (told (F.files folder.old) (Some name.now)) text) }
     ensures status { IfErr result (λ status. Ends (F.files folder.old) name.now status) }
     ensures read { result ≡ Err Status.ReadFault → Rose (F.faults folder.old) (F.faults folder.new) }
+    ensures files { F.files folder.new ≡ F.files folder.old }
+    ensures later { F.faults folder.old ≤ F.faults folder.new }
 {
     let bytes = match folder.read(alloc, name, MAX_LENGTH) {
         Ok(Got::Found(bytes)) => bytes,
@@ -54,6 +56,7 @@ fn prepare<F: Folder>(alloc: Global, folder: &mut F, name: &str) -> Result<Bytes
 fn send<O: Outlet>(alloc: Global, out: &mut O, text: &[u8]) -> Status
     ensures text { Sends (O.written out.old) (O.written out.new) text.now result }
     ensures write { result ≡ Status.WriteFault → Rose (O.faults out.old) (O.faults out.new) }
+    ensures later { O.faults out.old ≤ O.faults out.new }
 {
     match out.text(alloc, text) {
         Ok(Sent::Done) => Status::Ok,
@@ -81,6 +84,8 @@ pub fn inspect<F: Folder, O: Outlet>(
     // where no count of faults rose, a file that calls for Ok gets it, but for want of memory
     ensures complete { (Rose (F.faults folder.old) (F.faults folder.new) → ⊥) → (Rose (O.faults out.old) (O.faults out.new) → ⊥)
         → Completes (F.files folder.old) (file_name (map string_bytes words.now)) result }
+    ensures files { F.files folder.new ≡ F.files folder.old }
+    ensures later { (F.faults folder.old ≤ F.faults folder.new) × (O.faults out.old ≤ O.faults out.new) }
 {
     let Some(name) = file_name(words) else {
         return Status::Usage;
