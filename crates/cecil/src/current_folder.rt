@@ -1,7 +1,8 @@
-ghost use Rattle.std.specs.Prelude.{◌≡◌, ◌≤◌, IfOk, IfSome, List, None, Option, length};
-ghost use Rattle.cecil.specs.Reads.{IsRead};
+ghost use Rattle.std.specs.Prelude.{◌≡◌, ◌≢◌, IfOk, IfSome, List, MatchResult, None, Option};
+ghost use Rattle.std.specs.IoError.{error_kind};
+ghost use Rattle.cecil.specs.Reads.{IsAll, IsRead};
 
-use cil_base::{Bytes, List, NoMemory};
+use cil_base::{List, NoMemory};
 use cil_outside::{Folder, Got};
 use std::alloc::Global;
 use std::fs;
@@ -37,42 +38,44 @@ impl<'a, R: Files> CurrentFolder<'a, R> {
     }
 }
 
-/// All bytes that a reader has left, if they are at most `max`. A read that gives nothing is the end.
-fn read_whole<F: Read>(alloc: Global, file: &mut F, max: u64) -> Result<Option<Bytes>, ReadError>
-    ensures { IfOk result (λ found. IfSome found (λ bytes. length bytes ≤ max)) }
+/// All bytes that a reader has left, if they are at most `max`, else TooLong. A read that gives nothing is the end.
+fn read_whole<F: Read>(alloc: Global, file: &mut F, max: u64) -> Result<Got, ReadError>
+    ensures within { IfOk result (λ got. IsRead max got) }
+    ensures all { IfOk result (λ got. IfSome (F.remaining file.old) (λ left. IsAll left max got)) }
 {
     let mut bytes = List::new(alloc);
     let mut chunk = [0; CHUNK];
-    for _ in 0..u64::MAX {
+    'reading: loop {
         let count = file.read(&mut chunk)?;
         if count == 0 {
-            return Ok(Some(bytes));
+            return Ok(Got::Found(bytes));
         }
         if max < (bytes.len() + count) as u64 {
-            return Ok(None);
+            return Ok(Got::TooLong);
         }
         bytes.extend(&chunk[..count])?;
     }
-    // Each turn took a byte.
-    Ok(None)
+}
+
+/// What is answered of a file that is not opened: Missing where there is none of its name, else that the read failed.
+fn not_opened(error: io::Error) -> Result<Got, ReadError>
+    ensures { MatchResult result
+        (λ got. (got ≡ Got.Missing) × (error_kind error ≡ ErrorKind.NotFound))
+        (λ why. (why ≡ ReadError.Failed error) × (error_kind error ≢ ErrorKind.NotFound)) }
+{
+    if error.kind() == ErrorKind::NotFound {
+        return Ok(Got::Missing);
+    }
+    Err(ReadError::Failed(error))
 }
 
 /// The bytes of a file, Missing or TooLong.
 fn read_file<R: Files>(alloc: Global, files: &R, name: &str, max: u64) -> Result<Got, ReadError>
     ensures { IfOk result (λ got. IsRead max got) }
 {
-    let mut file = match fs::open(files, name) {
-        Ok(file) => file,
-        Err(error) => {
-            if error.kind() == ErrorKind::NotFound {
-                return Ok(Got::Missing);
-            }
-            return Err(ReadError::Failed(error));
-        }
-    };
-    match read_whole(alloc, &mut file, max)? {
-        Some(bytes) => Ok(Got::Found(bytes)),
-        None => Ok(Got::TooLong),
+    match fs::open(files, name) {
+        Ok(mut file) => read_whole(alloc, &mut file, max),
+        Err(error) => not_opened(error),
     }
 }
 
