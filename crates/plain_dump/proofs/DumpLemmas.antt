@@ -1,13 +1,10 @@
 -- The lines of a thin image.
-use Rattle.std.proofs.Common.{◌≡◌, refl, sym, ◌∙◌, ap, zero, suc, ℕ, ◌+◌, ◌≤◌, ◌<◌, ◌++◌, ◌∷◌, ◌&&◌, ◌==◌, [], Bool, true, false, Option, Some, None, List, nat_le, nat_lt, codes, if◌then◌else◌, arith, append-nil, append_assoc, add-zero, add-one, is_some}
+use Rattle.std.proofs.Common.{◌≡◌, refl, sym, ◌∙◌, ap, zero, suc, ℕ, ◌+◌, ◌≤◌, ◌++◌, ◌∷◌, ◌&&◌, ◌==◌, [], Bool, true, false, None, List, nat_le, nat_lt, codes, if◌then◌else◌, arith, append-nil, append_assoc, is_some}
 use Rattle.std.specs.List.{flat_map, range_with_len}
 use Rattle.std.proofs.lemmas.Grind.{flat_map-append}
-use Rattle.cil_base.specs.Token.{Token}
-use Rattle.pe_image.specs.Streams.{stream}
-use Rattle.pe_image.specs.declared.stream.StreamName.TheVariants.{Tables}
+use Rattle.cil_base.specs.Token.{Token, token_text}
 use Rattle.cecil_top.specs.Dump.{dump, row_line, type_lines}
-use Rattle.cecil_top.specs.Texts.{line, reply_text, token_text}
-use Rattle.node_model.specs.Edits.{edits}
+use Rattle.cecil_top.specs.Texts.{line, reply_text}
 use Rattle.node_model.specs.Entries.{Parts, parts}
 use Rattle.node_model.specs.Immediate.{read_row}
 use Rattle.node_model.specs.Keys.{is_row, rows}
@@ -21,9 +18,8 @@ use Rattle.node_model.specs.declared.row.Value.TheVariants as values
 use Rattle.node_model.specs.declared.slot.Slot.{Slot}
 use Rattle.node_model.specs.declared.slot.Slot.TheVariants as slots
 use Rattle.plain_dump.specs.Lines.{all_lines, first_text, lines_of_types, row_said}
-use Rattle.plain_dump.specs.Rows.{Describes}
-use Rattle.plain_dump.specs.declared.rows.Rows.{Rows}
-use Rattle.plain_dump.proofs.ThinRows.{passes, fails}
+use Rattle.node_read.proofs.ThinRows.{passes, fails}
+use Rattle.plain_dump.proofs.HeaderLemmas.{range_more}
 
 -- the reply to a row over an image to which nothing was done
 either_way : (x : Bool) (ks : List Key) → (if x then ks else ks) ≡ ks
@@ -65,13 +61,6 @@ both : (x y : Bool) → x ≡ true → y ≡ true → (x && y) ≡ true
 both true y e f = f
 both false y e f = e
 
--- one more line
-range_more : (a n : ℕ) → range_with_len a (suc n) ≡ range_with_len a n ++ (a + n) ∷ []
-range_more a zero = ap (λ x. x ∷ []) (sym (add-zero a))
-range_more a (suc n) =
-    let next : (a + 1) + n ≡ a + suc n = omega arith in
-    ap (λ xs. a ∷ xs) (range_more (a + 1) n ∙ ap (λ x. range_with_len (a + 1) n ++ x ∷ []) next)
-
 abbrev upto : (ℕ → List ℕ) → ℕ → List ℕ
 upto f n = flat_map f (range_with_len 1 n)
 
@@ -105,9 +94,8 @@ added_line p start before after n was is =
     ∙ ap (λ x. start ++ x) (sym (more f n))
     ∙ ap (λ k. start ++ upto f k) (sym one)
 
-pub dump_is : (b : List ℕ) (kept : Rows) → Describes (stream b Tables) kept → dump b ≡ all_lines (parts b) kept.modules kept.types
-unfolding dump all_lines rows
-dump_is b kept h =
-    ap (λ x. x ++ type_lines b (rows b 2)) (first_line b kept.modules h.modules)
-    ∙ ap (λ x. line (first_text (parts b) kept.modules) ++ x) (same_lines b (rows b 2) (omega arith))
-    ∙ ap (λ n. line (first_text (parts b) kept.modules) ++ lines_of_types (parts b) n) (sym h.types)
+pub dump_is : (b : List ℕ) → dump b ≡ all_lines (parts b)
+unfolding dump all_lines rows parts
+dump_is b =
+    ap (λ x. x ++ type_lines b (rows b 2)) (first_line b (rows b 0) refl)
+    ∙ ap (λ x. line (first_text (parts b) (rows b 0)) ++ x) (same_lines b (rows b 2) (omega arith))

@@ -1,6 +1,6 @@
-mod Bits
-mod CellLemmas
 mod DumpLemmas
+mod HeaderLemmas
 mod LineLemmas
-mod SlotLemmas
-mod ThinRows
+mod NumberLemmas
+mod PlaceLemmas
+mod ThinLemmas

@@ -1,4 +1,3 @@
+pub mod Lines
 pub mod Rows
 pub mod Streams
-pub mod Shown
-pub mod Lines

@@ -1,44 +1,28 @@
--- The rows of a thin image as they are kept: where they begin, and how many each table has.
-use Rattle.std.specs.Prelude.{◌≡◌, ◌≢◌, ℕ, ◌+◌, ◌*◌, ◌^◌, ◌<◌, ◌≤◌, Bool, true, false, List, Option, Some, None, length, nat_lt, nat_le, ◌&&◌, if◌then◌else◌}
-use Rattle.pe_image.specs.Rows.{heap_sizes, row_count, rows_place}
-use Rattle.pe_image.specs.Thin.{has_thin_rows}
-use Rattle.plain_dump.specs.declared.rows.Rows.{Rows}
+-- What the code asks of the stream `#~`, and how wide the columns are: ECMA-335 II.24.2.6.
+use Rattle.std.specs.Prelude.{ℕ, ◌^◌, ◌<◌, Bool, List, nat_lt, ◌==◌, ◌||◌, not, if◌then◌else◌}
+use Rattle.std.specs.List.{range_with_len, list_all}
+use Rattle.pe_image.specs.Rows.{is_valid, row_count}
+use Rattle.node_model.specs.Columns.{type_tables}
 
--- the bytes of a TypeDef row
-abbrev pub type_width : ℕ → ℕ
-type_width types = if nat_lt types (2 ^ 14) then 14 else 16
+-- the bytes of an index
+abbrev pub size : Bool → ℕ
+size wide = if wide then 4 else 2
 
--- the rows do not pass the stream, and no count passes 2^24 - 1
-abbrev pub fits : List ℕ → Rows → Bool
-fits s rows =
-    nat_lt rows.modules (2 ^ 24)
-    && (nat_lt rows.types (2 ^ 24) && nat_le (rows.place + (10 * rows.modules + type_width rows.types * rows.types)) (length s))
+-- no table below n but Module and TypeDef is there
+unfoldable pub is_clear : List ℕ → ℕ → Bool
+is_clear s n = list_all (λ t. not (is_valid s t) || (t == 0) || (t == 2)) (range_with_len 0 n)
 
--- what is kept is what the header says, and the other tables have no rows, so those that a TypeDef row names or starts a run in
-pub record Describes (s : List ℕ) (rows : Rows) : Type 0 where
-  pub place : rows.place ≡ rows_place s
-  pub modules : rows.modules ≡ row_count s 0
-  pub types : rows.types ≡ row_count s 2
-  pub others : (n : ℕ) → n ≢ 0 → n ≢ 2 → row_count s n ≡ 0
-  pub references : row_count s 0x01 ≡ 0
-  pub fields : row_count s 0x04 ≡ 0
-  pub methods : row_count s 0x06 ≡ 0
-  pub specs : row_count s 0x1b ≡ 0
-  pub narrow : heap_sizes s ≡ 0
-  pub low : rows.place ≤ 32
+-- no table below n has 2^24 rows or more
+unfoldable pub are_low : List ℕ → ℕ → Bool
+are_low s n = list_all (λ t. nat_lt (row_count s t) (2 ^ 24)) (range_with_len 0 n)
 
--- the header is that of a thin image, as far as the counts
-abbrev pub Counts : Option Rows → List ℕ → Type 0
-Counts None s = has_thin_rows s ≡ false
-Counts (Some rows) s = Describes s rows × (has_thin_rows s ≡ fits s rows)
+-- the same of all tables, one by one
+abbrev pub AreLow : List ℕ → Type 0
+AreLow s = (t : ℕ) → t < 64 → row_count s t < 2 ^ 24
 
--- the image is thin, and its rows do not pass the stream
-pub record Opened (s : List ℕ) (rows : Rows) : Type 0 where
-  pub describes : Describes s rows
-  pub modules : rows.modules < 2 ^ 24
-  pub types : rows.types < 2 ^ 24
-  pub room : rows.place + (10 * rows.modules + type_width rows.types * rows.types) ≤ length s
+-- an index of TypeDefOrRef, and one of the rows of a table, are wide
+abbrev pub is_far : List ℕ → Bool
+is_far s = not (list_all (λ t. nat_lt (row_count s t) (2 ^ 14)) type_tables)
 
-abbrev pub Opens : Option Rows → List ℕ → Type 0
-Opens None s = has_thin_rows s ≡ false
-Opens (Some rows) s = (has_thin_rows s ≡ true) × Opened s rows
+abbrev pub is_many : List ℕ → ℕ → Bool
+is_many s t = not (nat_lt (row_count s t) (2 ^ 16))

@@ -1,24 +1,20 @@
-ghost use Rattle.std.specs.Prelude.{◌≡◌, ◌<◌, ◌+◌, ◌≤◌, ◌^◌, nat_lt, if◌then◌else◌, length, IfOk};
-ghost use Rattle.pe_image.specs.Places.{u16_at, u32_at};
-ghost use Rattle.node_model.specs.Entries.{guid_cell};
-ghost use Rattle.plain_dump.specs.Rows.{type_width};
-ghost use Rattle.plain_dump.specs.Shown.{text_cell, type_cell};
+ghost use Rattle.std.specs.Prelude.{◌≡◌, ◌/◌, ◌%◌, ◌<◌, IfOk, IfSome, slice_get, option_map};
+ghost use Rattle.md_heaps.specs.Entries.{text};
+ghost use Rattle.node_model.specs.Columns.{type_tables};
+ghost use Rattle.node_model.specs.Entries.{guid_cell, index_cell};
+ghost use Rattle.node_model.specs.declared.cell.Cell.TheVariants.{Text};
+ghost use Rattle.plain_dump.specs.Rows.{AreLow};
 
-use crate::number::{u16_at, u32_at};
+use crate::header::row_count;
+use crate::table::{TYPE_DEF, TYPE_REF, TYPE_SPEC};
 use cil_base::{List, NoMemory, Token};
 use md_heaps::{GuidAt, string_at};
 use node_model::Cell;
 use std::alloc::Global;
 
-/// The number of the table Module (ECMA-335 II.22.30).
-pub(crate) const MODULE: u8 = 0x00;
-
-/// The number of the table TypeDef (ECMA-335 II.22.37).
-pub(crate) const TYPE_DEF: u8 = 0x02;
-
 /// The cell of an index of #Strings. None where there is no such text.
 pub(crate) fn text_cell(alloc: Global, heap: &[u8], index: u32) -> Result<Option<Cell>, NoMemory>
-    ensures { IfOk result (λ cell. cell ≡ text_cell heap.now index) }
+    ensures { IfOk result (λ cell. cell ≡ option_map Text (text heap.now index)) }
 {
     match string_at(heap, index) {
         Some(text) => Ok(Some(Cell::Text(List::from_slice(alloc, text)?))),
@@ -37,33 +33,39 @@ pub(crate) fn guid_cell(entry: GuidAt) -> Option<Cell>
     }
 }
 
-/// The cell of a stored index of TypeDefOrRef, where TypeDef has `types` rows and the other tables none. Its two lowest bits
-/// are the tag, 0 of TypeDef (ECMA-335 II.24.2.6). None where it names no row.
-pub(crate) fn type_cell(types: u32, value: u32) -> Option<Cell>
-    requires { types < 2 ^ 24 }
-    ensures { result ≡ type_cell types value }
+/// The table of a tag of TypeDefOrRef (ECMA-335 II.24.2.6).
+fn tagged(tag: u32) -> Option<u8>
+    ensures is { result ≡ slice_get type_tables tag }
+    ensures table { IfSome result (λ table. table < 64) }
 {
-    let rid = value / 4;
+    match tag {
+        0 => Some(TYPE_DEF),
+        1 => Some(TYPE_REF),
+        2 => Some(TYPE_SPEC),
+        _ => None,
+    }
+}
+
+/// The cell of a row of a table, if any. A row of 0 is null. None where there is no such row.
+fn row_cell(tables: &[u8], rid: u32, table: Option<u8>) -> Option<Cell>
+    requires low { AreLow tables.now }
+    requires table { IfSome table (λ table. table < 64) }
+    ensures { result ≡ index_cell tables.now rid table }
+{
     if rid == 0 {
         return Some(Cell::NoRef);
     }
-    if value % 4 != 0 || rid > types {
+    let table = table?;
+    if rid > row_count(tables, table) {
         return None;
     }
-    Some(Cell::Ref(Token {
-        table: TYPE_DEF,
-        rid,
-    }))
+    Some(Cell::Ref(Token { table, rid }))
 }
 
-/// The stored number of Extends, which is wide where TypeDef has 2^14 rows or more.
-pub(crate) fn extends(tables: &[u8], types: u32, place: usize) -> u32
-    requires { place + type_width types ≤ length tables.now + 8 }
-    ensures { result ≡ (if nat_lt types (2 ^ 14) then u16_at tables.now place else u32_at tables.now place) }
+/// The cell of an index of TypeDefOrRef, whose two lowest bits are the tag. None where it names no row.
+pub(crate) fn type_cell(tables: &[u8], index: u32) -> Option<Cell>
+    requires low { AreLow tables.now }
+    ensures { result ≡ index_cell tables.now (index / 4) (slice_get type_tables (index % 4)) }
 {
-    if types < 0x4000 {
-        u32::from(u16_at(tables, place))
-    } else {
-        u32_at(tables, place)
-    }
+    row_cell(tables, index / 4, tagged(index % 4))
 }

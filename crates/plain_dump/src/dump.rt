@@ -2,13 +2,16 @@ ghost use Rattle.std.specs.Prelude.{◌≡◌, ◌++◌, ◌<◌, ◌≤◌, IfO
 ghost use Rattle.cecil_top.specs.Dump.{thin_dump};
 ghost use Rattle.cecil_top.specs.Texts.{line};
 ghost use Rattle.plain_dump.specs.Lines.{all_lines, first_text, lines_of_types};
-ghost use Rattle.plain_dump.specs.Streams.{IsOpened, parts_of};
+ghost use Rattle.pe_image.specs.Rows.{row_count};
+ghost use Rattle.plain_dump.specs.Rows.{AreLow};
+ghost use Rattle.plain_dump.specs.Streams.{parts_of};
 
-use crate::cells::MODULE;
+use crate::header::row_count;
 use crate::module_text::module_text;
-use crate::rows::read_rows;
 use crate::streams::Streams;
+use crate::table::{MODULE, TYPE_DEF};
 use crate::text::start;
+use crate::thin::has_thin_rows;
 use crate::type_text::type_text;
 use cil_base::{Bytes, List, NoMemory};
 use pe_image::{Pe, PeFail, StreamName};
@@ -24,10 +27,9 @@ fn add_line(dump: &mut Bytes, text: &[u8]) -> Result<(), NoMemory>
 
 /// The text of the reply to the first Module row, which may be absent.
 fn first_text(alloc: Global, streams: &Streams) -> Result<Bytes, NoMemory>
-    requires { IsOpened streams.now }
-    ensures { IfOk result (λ text. text ≡ first_text (parts_of streams.now) streams.now.rows.modules) }
+    ensures { IfOk result (λ text. text ≡ first_text (parts_of streams.now) (row_count streams.now.tables.now 0)) }
 {
-    if streams.rows.modules == 0 {
+    if row_count(streams.tables, MODULE) == 0 {
         return start(alloc, b"absent ", MODULE, 1);
     }
     module_text(alloc, streams)
@@ -36,10 +38,10 @@ fn first_text(alloc: Global, streams: &Streams) -> Result<Bytes, NoMemory>
 /// Adds the lines of all TypeDef rows.
 #[tactic(auto, using(crate::proofs::DumpLemmas::added_line))]
 fn add_types(alloc: Global, dump: &mut Bytes, streams: &Streams) -> Result<(), NoMemory>
-    requires { IsOpened streams.now }
-    ensures { OnOk result (dump.new ≡ dump.old ++ lines_of_types (parts_of streams.now) streams.now.rows.types) }
+    requires low { AreLow streams.now.tables.now }
+    ensures { OnOk result (dump.new ≡ dump.old ++ lines_of_types (parts_of streams.now) (row_count streams.now.tables.now 2)) }
 {
-    for number in 0..streams.rows.types {
+    for number in 0..row_count(streams.tables, TYPE_DEF) {
         let text = type_text(alloc, streams, number + 1)?;
         add_line(dump, text.as_slice())?;
     }
@@ -49,8 +51,8 @@ fn add_types(alloc: Global, dump: &mut Bytes, streams: &Streams) -> Result<(), N
 /// The lines of the first Module row and of all TypeDef rows.
 #[tactic(auto, unfolding(crate::specs::Lines::all_lines))]
 fn all_lines(alloc: Global, streams: &Streams) -> Result<Bytes, NoMemory>
-    requires { IsOpened streams.now }
-    ensures { IfOk result (λ text. text ≡ all_lines (parts_of streams.now) streams.now.rows.modules streams.now.rows.types) }
+    requires low { AreLow streams.now.tables.now }
+    ensures { IfOk result (λ text. text ≡ all_lines (parts_of streams.now)) }
 {
     let first = first_text(alloc, streams)?;
     let mut dump = List::new(alloc);
@@ -70,14 +72,13 @@ pub fn plain_dump(alloc: Global, file: &[u8]) -> Result<Option<Bytes>, NoMemory>
         Err(PeFail::NoMemory) => return Err(NoMemory),
     };
     let tables = pe.stream(file, StreamName::Tables);
-    let Some(rows) = read_rows(tables) else {
+    if !has_thin_rows(tables) {
         return Ok(None);
-    };
+    }
     let streams = Streams {
         tables,
         strings: pe.stream(file, StreamName::Strings),
         guids: pe.stream(file, StreamName::Guids),
-        rows,
     };
     let text = all_lines(alloc, &streams)?;
     Ok(Some(text))

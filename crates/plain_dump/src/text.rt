@@ -1,43 +1,13 @@
 ghost use Rattle.std.specs.Prelude.{◌≡◌, ◌<◌, ◌^◌, ◌++◌, IfOk, OnOk};
 ghost use Rattle.std.specs.Fmt.{decimal};
-ghost use Rattle.cil_base.specs.Escape.{hex_pair, lower_hex};
-ghost use Rattle.cecil_top.specs.Texts.{cell_text, guid_text, quoted, token_text};
+ghost use Rattle.cil_base.specs.Token.{token_text};
+ghost use Rattle.cecil_top.specs.Texts.{cell_text, guid_text, quoted};
 ghost use Rattle.plain_dump.specs.Lines.{fault_text};
 
-use cil_base::{Bytes, List, NoMemory, escape};
+use cil_base::{Bytes, List, NoMemory, Token, escape};
 use node_model::Cell;
 use std::alloc::Global;
 use uuid::Uuid;
-
-/// The lower-case hex digit of a number below 16.
-fn lower_hex(value: u8) -> u8
-    requires { value < 16 }
-    ensures { result ≡ lower_hex value }
-{
-    if value < 10 {
-        b'0' + value
-    } else {
-        b'a' - 10 + value
-    }
-}
-
-/// Adds the two lower-case hex digits of a byte.
-fn add_hex_pair(text: &mut Bytes, byte: u8) -> Result<(), NoMemory>
-    ensures { OnOk result (text.new ≡ text.old ++ hex_pair byte) }
-{
-    text.extend(&[lower_hex(byte / 16), lower_hex(byte % 16)])
-}
-
-/// Adds a token: two hex digits for the table and six for the row.
-fn add_token(text: &mut Bytes, table: u8, rid: u32) -> Result<(), NoMemory>
-    requires { rid < 2 ^ 24 }
-    ensures { OnOk result (text.new ≡ text.old ++ token_text table rid) }
-{
-    add_hex_pair(text, table)?;
-    add_hex_pair(text, (rid / 0x10000) as u8)?;
-    add_hex_pair(text, (rid / 0x100 % 0x100) as u8)?;
-    add_hex_pair(text, (rid % 0x100) as u8)
-}
 
 /// A text that begins with a word and the token of a row.
 pub(crate) fn start(alloc: Global, word: &[u8], table: u8, rid: u32) -> Result<Bytes, NoMemory>
@@ -45,7 +15,7 @@ pub(crate) fn start(alloc: Global, word: &[u8], table: u8, rid: u32) -> Result<B
     ensures { IfOk result (λ text. text ≡ word.now ++ token_text table rid) }
 {
     let mut text = List::from_slice(alloc, word)?;
-    add_token(&mut text, table, rid)?;
+    text.extend(&Token { table, rid }.hex_digits())?;
     Ok(text)
 }
 
@@ -98,7 +68,7 @@ pub(crate) fn add_cell(text: &mut Bytes, name: &[u8], cell: &Cell) -> Result<(),
         Cell::Num(number) => add_decimal(text, *number),
         Cell::Text(bytes) => add_quoted(text, bytes.as_slice()),
         Cell::Guid(bytes) => add_guid(text, *bytes),
-        Cell::Ref(token) => add_token(text, token.table, token.rid),
+        Cell::Ref(token) => text.extend(&token.hex_digits()),
         Cell::NoGuid => text.extend(b"none"),
         Cell::NoRef => text.extend(b"none"),
     }
