@@ -1,6 +1,0 @@
-mod DumpLemmas
-mod HeaderLemmas
-mod LineLemmas
-mod NumberLemmas
-mod PlaceLemmas
-mod ThinLemmas
