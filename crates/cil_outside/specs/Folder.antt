@@ -12,12 +12,12 @@ abbrev pub content_of : List NamedFile → List ℕ → Option (List ℕ)
 content_of files name = option_map (λ file. file.bytes) (find (λ file. pointwise nat_eq file.name name) files)
 
 -- the answer is right for a name and a limit, where the folder tells its files
-abbrev pub Reads : Option (List NamedFile) → List ℕ → ℕ → Got → Type 0
-Reads None _ _ _ = Unit {0}
-Reads (Some files) name _ (Found bytes) = content_of files name ≡ Some bytes
-Reads (Some files) name _ Missing = content_of files name ≡ None
-Reads (Some files) name max TooLong = (bytes : List ℕ) × (content_of files name ≡ Some bytes) × (max < length bytes)
-Reads (Some _) _ _ Failed = Unit {0}
+abbrev pub FolderReads : Option (List NamedFile) → List ℕ → ℕ → Got → Type 0
+FolderReads None _ _ _ = Unit {0}
+FolderReads (Some files) name _ (Found bytes) = content_of files name ≡ Some bytes
+FolderReads (Some files) name _ Missing = content_of files name ≡ None
+FolderReads (Some files) name max TooLong = (bytes : List ℕ) × (content_of files name ≡ Some bytes) × (max < length bytes)
+FolderReads (Some _) _ _ Failed = Unit {0}
 
 -- what was found is within the limit, told or not
 abbrev pub IsWithin : ℕ → Got → Type 0

@@ -11,23 +11,23 @@ use Rattle.cil_outside.specs.TableFolder.{next_count}
 abbrev pub fresh_outlet : List ℕ → MemoryOutlet
 fresh_outlet failing = record { text = []; failing = failing; calls = 0; faults = 0 }
 
-abbrev pub text_of : MemoryOutlet → List ℕ
-text_of outlet = outlet.text
+abbrev pub outlet_text : MemoryOutlet → List ℕ
+outlet_text outlet = outlet.text
 
 -- the number of calls that failed
-abbrev pub faults_of : MemoryOutlet → ℕ
-faults_of outlet = outlet.faults
+abbrev pub outlet_faults : MemoryOutlet → ℕ
+outlet_faults outlet = outlet.faults
 
 -- whether the call now to be made is one of those that fail
-abbrev pub fails_now : MemoryOutlet → Bool
-fails_now outlet = list_any (nat_eq outlet.calls) outlet.failing
+abbrev pub outlet_fails : MemoryOutlet → Bool
+outlet_fails outlet = list_any (nat_eq outlet.calls) outlet.failing
 
 -- after one call, with this many faults more and this text
-abbrev pub called : MemoryOutlet → List ℕ → ℕ → MemoryOutlet
-called outlet text faults = record outlet { text = text; calls = next_count outlet.calls; faults = faults }
+abbrev pub outlet_called : MemoryOutlet → List ℕ → ℕ → MemoryOutlet
+outlet_called outlet text faults = record outlet { text = text; calls = next_count outlet.calls; faults = faults }
 
 -- a call takes all bytes, or, where it is one of those that fail, the first half of them and counts the fault
-abbrev pub Takes : MemoryOutlet → MemoryOutlet → List ℕ → Result Sent NoMemory → Type 0
-Takes old new bytes (Ok Done) = (fails_now old ≡ false) × (new ≡ called old (old.text ++ bytes) old.faults)
-Takes old new bytes (Ok Failed) = (fails_now old ≡ true) × (new ≡ called old (old.text ++ take (length bytes / 2) bytes) (next_count old.faults))
-Takes old new _ (Err _) = new ≡ called old old.text old.faults
+abbrev pub OutletTakes : MemoryOutlet → MemoryOutlet → List ℕ → Result Sent NoMemory → Type 0
+OutletTakes old new bytes (Ok Done) = (outlet_fails old ≡ false) × (new ≡ outlet_called old (old.text ++ bytes) old.faults)
+OutletTakes old new bytes (Ok Failed) = (outlet_fails old ≡ true) × (new ≡ outlet_called old (old.text ++ take (length bytes / 2) bytes) (next_count old.faults))
+OutletTakes old new _ (Err _) = new ≡ outlet_called old old.text old.faults

@@ -11,27 +11,27 @@ use Rattle.cil_outside.specs.declared.table_folder.TableFolder.{TableFolder}
 abbrev pub fresh_folder : List NamedFile → List ℕ → TableFolder
 fresh_folder files failing = record { files = files; failing = failing; calls = 0; faults = 0 }
 
-abbrev pub files_of : TableFolder → List NamedFile
-files_of folder = folder.files
+abbrev pub folder_files : TableFolder → List NamedFile
+folder_files folder = folder.files
 
 -- the number of calls that failed
-abbrev pub faults_of : TableFolder → ℕ
-faults_of folder = folder.faults
+abbrev pub folder_faults : TableFolder → ℕ
+folder_faults folder = folder.faults
 
 -- whether the call now to be made is one of those that fail
-abbrev pub fails_now : TableFolder → Bool
-fails_now folder = list_any (nat_eq folder.calls) folder.failing
+abbrev pub folder_fails : TableFolder → Bool
+folder_fails folder = list_any (nat_eq folder.calls) folder.failing
 
 -- one more, up to the end of the type
 abbrev pub next_count : ℕ → ℕ
 next_count n = min (n + 1) (2 ^ 64 - 1)
 
 -- after one call, with this number of faults
-abbrev pub called : TableFolder → ℕ → TableFolder
-called folder faults = record folder { calls = next_count folder.calls; faults = faults }
+abbrev pub folder_called : TableFolder → ℕ → TableFolder
+folder_called folder faults = record folder { calls = next_count folder.calls; faults = faults }
 
 -- a call fails exactly where its number is one of those that fail, and only then is a fault counted
-abbrev pub Counts : TableFolder → TableFolder → Result Got NoMemory → Type 0
-Counts old new (Ok Failed) = (fails_now old ≡ true) × (new ≡ called old (next_count old.faults))
-Counts old new (Ok _) = (fails_now old ≡ false) × (new ≡ called old old.faults)
-Counts old new (Err _) = (fails_now old ≡ false) × (new ≡ called old old.faults)
+abbrev pub FolderCounts : TableFolder → TableFolder → Result Got NoMemory → Type 0
+FolderCounts old new (Ok Failed) = (folder_fails old ≡ true) × (new ≡ folder_called old (next_count old.faults))
+FolderCounts old new (Ok _) = (folder_fails old ≡ false) × (new ≡ folder_called old old.faults)
+FolderCounts old new (Err _) = (folder_fails old ≡ false) × (new ≡ folder_called old old.faults)

@@ -1,5 +1,5 @@
 ghost use Rattle.std.specs.Prelude.{◌≡◌, ◌≢◌, IfOk, Some, option_copied};
-ghost use Rattle.cil_outside.specs.Folder.{content_of, Reads, IsWithin};
+ghost use Rattle.cil_outside.specs.Folder.{content_of, FolderReads, IsWithin};
 
 use crate::folder::Got;
 use cil_base::{Bytes, List, NoMemory};
@@ -22,7 +22,7 @@ fn content<'a>(files: &'a [NamedFile], name: &[u8]) -> Option<&'a [u8]>
 
 /// What a folder of these files answers when no read fails.
 pub fn look_up(alloc: Global, files: &[NamedFile], name: &str, max: u64) -> Result<Got, NoMemory>
-    ensures content { IfOk result (λ got. Reads (Some files.now) name.now max got) }
+    ensures content { IfOk result (λ got. FolderReads (Some files.now) name.now max got) }
     ensures within { IfOk result (λ got. IsWithin max got) }
     ensures sound { IfOk result (λ got. got ≢ Got.Failed) }
 {

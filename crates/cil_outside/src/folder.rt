@@ -1,6 +1,6 @@
 ghost use Rattle.std.specs.Prelude.{◌≡◌, ◌≤◌, List, Option, ℕ, IfOk, Ok, length};
 ghost use Rattle.cil_outside.specs.Causes.{Rose};
-ghost use Rattle.cil_outside.specs.Folder.{Reads, IsWithin};
+ghost use Rattle.cil_outside.specs.Folder.{FolderReads, IsWithin};
 ghost use Rattle.cil_outside.specs.declared.files.NamedFile.{NamedFile};
 
 use cil_base::{Bytes, NoMemory};
@@ -30,7 +30,7 @@ pub trait Folder {
     /// Reads the file `name`, if it has at most `max` bytes.
     fn read(&mut self, alloc: Global, name: &str, max: u64) -> Result<Got, NoMemory>
         ensures files { files self.new ≡ files self.old }
-        ensures content { IfOk result (λ got. Reads (files self.old) name.now max got) }
+        ensures content { IfOk result (λ got. FolderReads (files self.old) name.now max got) }
         ensures within { IfOk result (λ got. IsWithin max got) }
         ensures later { faults self.old ≤ faults self.new }
         ensures failed { result ≡ Ok Got.Failed → Rose (faults self.old) (faults self.new) };

@@ -1,7 +1,7 @@
 ghost use Rattle.std.specs.Prelude.{◌≡◌, ◌≤◌, OnErr, Ok, Some, List, Option, ℕ};
 ghost use Rattle.cil_outside.specs.Causes.{Rose};
-ghost use Rattle.cil_outside.specs.Outlet.{Sends};
-ghost use Rattle.cil_outside.specs.MemoryOutlet.{fresh_outlet, text_of, faults_of, Takes};
+ghost use Rattle.cil_outside.specs.Outlet.{OutletSends};
+ghost use Rattle.cil_outside.specs.MemoryOutlet.{fresh_outlet, outlet_text, outlet_faults, OutletTakes};
 
 use crate::outlet::{Outlet, Sent};
 use cil_base::{Bytes, List, NoMemory};
@@ -32,23 +32,23 @@ impl MemoryOutlet {
 
     /// The text so far.
     pub fn written(&self) -> &[u8]
-        ensures { result.now ≡ text_of self.now }
+        ensures { result.now ≡ outlet_text self.now }
     {
         self.text.as_slice()
     }
 }
 
 impl Outlet for MemoryOutlet {
-    ghost written = { λ o. Some (text_of o) };
+    ghost written = { λ o. Some (outlet_text o) };
 
-    ghost faults = { faults_of };
+    ghost faults = { outlet_faults };
 
     fn text(&mut self, _alloc: Global, bytes: &[u8]) -> Result<Sent, NoMemory>
-        ensures content { Sends (Some (text_of self.old)) (Some (text_of self.new)) bytes.now result }
-        ensures later { faults_of self.old ≤ faults_of self.new }
-        ensures failed { result ≡ Ok Sent.Failed → Rose (faults_of self.old) (faults_of self.new) }
-        ensures memory { OnErr result (faults_of self.new ≡ faults_of self.old) }
-        ensures exact { Takes self.old self.new bytes.now result }
+        ensures content { OutletSends (Some (outlet_text self.old)) (Some (outlet_text self.new)) bytes.now result }
+        ensures later { outlet_faults self.old ≤ outlet_faults self.new }
+        ensures failed { result ≡ Ok Sent.Failed → Rose (outlet_faults self.old) (outlet_faults self.new) }
+        ensures memory { OnErr result (outlet_faults self.new ≡ outlet_faults self.old) }
+        ensures exact { OutletTakes self.old self.new bytes.now result }
     {
         let fails = self.failing.as_slice().contains(&self.calls);
         self.calls = self.calls.saturating_add(1);

@@ -1,6 +1,6 @@
 ghost use Rattle.std.specs.Prelude.{◌≡◌, ◌≤◌, List, Option, ℕ, OnErr, Ok};
 ghost use Rattle.cil_outside.specs.Causes.{Rose};
-ghost use Rattle.cil_outside.specs.Outlet.{Sends};
+ghost use Rattle.cil_outside.specs.Outlet.{OutletSends};
 
 use cil_base::NoMemory;
 use std::alloc::Global;
@@ -24,7 +24,7 @@ pub trait Outlet {
 
     /// Writes `bytes` behind the text so far. `NoMemory` changes nothing.
     fn text(&mut self, alloc: Global, bytes: &[u8]) -> Result<Sent, NoMemory>
-        ensures content { Sends (written self.old) (written self.new) bytes.now result }
+        ensures content { OutletSends (written self.old) (written self.new) bytes.now result }
         ensures later { faults self.old ≤ faults self.new }
         ensures failed { result ≡ Ok Sent.Failed → Rose (faults self.old) (faults self.new) }
         ensures memory { OnErr result (faults self.new ≡ faults self.old) };

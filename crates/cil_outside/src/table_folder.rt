@@ -1,7 +1,7 @@
 ghost use Rattle.std.specs.Prelude.{◌≡◌, ◌≤◌, IfOk, Ok, Some, List, Option, ℕ};
 ghost use Rattle.cil_outside.specs.Causes.{Rose};
-ghost use Rattle.cil_outside.specs.Folder.{Reads, IsWithin};
-ghost use Rattle.cil_outside.specs.TableFolder.{fresh_folder, files_of, faults_of, Counts};
+ghost use Rattle.cil_outside.specs.Folder.{FolderReads, IsWithin};
+ghost use Rattle.cil_outside.specs.TableFolder.{fresh_folder, folder_files, folder_faults, FolderCounts};
 
 use crate::files::{NamedFile, look_up};
 use crate::folder::{Folder, Got};
@@ -32,17 +32,17 @@ impl TableFolder {
 }
 
 impl Folder for TableFolder {
-    ghost files = { λ f. Some (files_of f) };
+    ghost files = { λ f. Some (folder_files f) };
 
-    ghost faults = { faults_of };
+    ghost faults = { folder_faults };
 
     fn read(&mut self, alloc: Global, name: &str, max: u64) -> Result<Got, NoMemory>
-        ensures files { files_of self.new ≡ files_of self.old }
-        ensures content { IfOk result (λ got. Reads (Some (files_of self.old)) name.now max got) }
+        ensures files { folder_files self.new ≡ folder_files self.old }
+        ensures content { IfOk result (λ got. FolderReads (Some (folder_files self.old)) name.now max got) }
         ensures within { IfOk result (λ got. IsWithin max got) }
-        ensures later { faults_of self.old ≤ faults_of self.new }
-        ensures failed { result ≡ Ok Got.Failed → Rose (faults_of self.old) (faults_of self.new) }
-        ensures exact { Counts self.old self.new result }
+        ensures later { folder_faults self.old ≤ folder_faults self.new }
+        ensures failed { result ≡ Ok Got.Failed → Rose (folder_faults self.old) (folder_faults self.new) }
+        ensures exact { FolderCounts self.old self.new result }
     {
         let fails = self.failing.as_slice().contains(&self.calls);
         self.calls = self.calls.saturating_add(1);
