@@ -2,8 +2,8 @@
 use Rattle.std.proofs.Common.{◌≡◌, ℕ, ◌+◌, ◌-◌, ◌*◌, ◌<◌, ◌≤◌, List, [], ◌∷◌, length, get_or, drop, Some, None, ap, ◌∙◌, arith}
 use Rattle.std.proofs.lemmas.Bool.Decides.{nat_tests}
 use Rattle.cil_base.specs.Number.{strip_number}
-use Rattle.cil_base.specs.Reading.{number_at}
-use Rattle.cil_base.proofs.NumberLemmas.{one-strips, two-strips, four-strips, number_at-none}
+use Rattle.cil_base.specs.inner.Reading.{compressed_at}
+use Rattle.cil_base.proofs.NumberLemmas.{one-strips, two-strips, four-strips, compressed_at-none}
 
 pub front-one : (s : List ℕ) (n : ℕ) → 1 ≤ length s → get_or s 0 0 < 0x80 → n ≡ get_or s 0 0 → strip_number n s ≡ Some (drop 1 s)
 front-one [] n l h e = absurd (omega arith)
@@ -22,38 +22,38 @@ front-four (a ∷ b ∷ []) n l k h i j m e = absurd (omega arith)
 front-four (a ∷ b ∷ c ∷ []) n l k h i j m e = absurd (omega arith)
 front-four (a ∷ b ∷ c ∷ d ∷ s) n l k h i j m e = ap (λ (p : ℕ). strip_number p (a ∷ b ∷ c ∷ d ∷ s)) e ∙ four-strips a b c d s k h i j m
 
-none-empty : (s : List ℕ) → length s < 1 → number_at s ≡ None
-unfolding number_at
+none-empty : (s : List ℕ) → length s < 1 → compressed_at s ≡ None
+unfolding compressed_at
 none-empty [] l = grind arith
 none-empty (a ∷ s) l = absurd (omega arith)
 
-none-two : (s : List ℕ) → length s < 2 → 0x80 ≤ get_or s 0 0 → number_at s ≡ None
-unfolding number_at
+none-two : (s : List ℕ) → length s < 2 → 0x80 ≤ get_or s 0 0 → compressed_at s ≡ None
+unfolding compressed_at
 none-two [] l h = grind arith
 none-two (a ∷ []) l h = grind (arith, nat_tests)
 none-two (a ∷ b ∷ s) l h = absurd (omega arith)
 
-none-four : (s : List ℕ) → length s < 4 → 0xC0 ≤ get_or s 0 0 → number_at s ≡ None
-unfolding number_at
+none-four : (s : List ℕ) → length s < 4 → 0xC0 ≤ get_or s 0 0 → compressed_at s ≡ None
+unfolding compressed_at
 none-four [] l h = grind arith
 none-four (a ∷ []) l h = grind (arith, nat_tests)
 none-four (a ∷ b ∷ []) l h = grind (arith, nat_tests)
 none-four (a ∷ b ∷ c ∷ []) l h = grind (arith, nat_tests)
 none-four (a ∷ b ∷ c ∷ d ∷ s) l h = absurd (omega arith)
 
-none-marked : (s : List ℕ) → 0xE0 ≤ get_or s 0 0 → number_at s ≡ None
-unfolding number_at
+none-marked : (s : List ℕ) → 0xE0 ≤ get_or s 0 0 → compressed_at s ≡ None
+unfolding compressed_at
 none-marked [] h = grind arith
 none-marked (a ∷ s) h = grind (arith, nat_tests)
 
 pub front-empty : (s : List ℕ) → length s < 1 → (n : ℕ) → strip_number n s ≡ None
-front-empty s l n = number_at-none s n (none-empty s l)
+front-empty s l n = compressed_at-none s n (none-empty s l)
 
 pub front-short_two : (s : List ℕ) → length s < 2 → 0x80 ≤ get_or s 0 0 → (n : ℕ) → strip_number n s ≡ None
-front-short_two s l h n = number_at-none s n (none-two s l h)
+front-short_two s l h n = compressed_at-none s n (none-two s l h)
 
 pub front-short_four : (s : List ℕ) → length s < 4 → 0xC0 ≤ get_or s 0 0 → (n : ℕ) → strip_number n s ≡ None
-front-short_four s l h n = number_at-none s n (none-four s l h)
+front-short_four s l h n = compressed_at-none s n (none-four s l h)
 
 pub front-no_form : (s : List ℕ) → 0xE0 ≤ get_or s 0 0 → (n : ℕ) → strip_number n s ≡ None
-front-no_form s h n = number_at-none s n (none-marked s h)
+front-no_form s h n = compressed_at-none s n (none-marked s h)

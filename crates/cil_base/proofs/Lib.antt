@@ -1,6 +1,9 @@
 pub mod EntryLemmas
 pub mod FrontLemmas
 pub mod NumberLemmas
+pub mod PlaceLemmas
 pub mod SignBits
 pub mod SignedLemmas
 pub mod StandardFacts
+pub mod StepLemmas
+pub mod TokenLemmas

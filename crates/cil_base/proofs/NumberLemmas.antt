@@ -3,8 +3,9 @@ use Rattle.std.proofs.Common.{◌≡◌, ℕ, ◌+◌, ◌-◌, ◌*◌, ◌/◌
 use Rattle.std.specs.Option.{option_or, option_map_or}
 use Rattle.std.proofs.lemmas.List.{append-nil}
 use Rattle.std.proofs.lemmas.Bool.Decides.{nat_tests}
-use Rattle.cil_base.specs.Number.{Form, one_byte, two_bytes, four_bytes, written, strip_bytes, strip_form, strip_number, spelled_number}
-use Rattle.cil_base.specs.Reading.{two_at, four_at, number_at}
+use Rattle.cil_base.specs.Number.{Form, one_byte_form, two_bytes_form, four_bytes_form, written, strip_bytes, strip_form, strip_number, spelled_number}
+use Rattle.cil_base.specs.inner.Reading.{two_at, four_at, compressed_at}
+use Rattle.cil_base.proofs.StepLemmas.{split}
 
 same_byte : (b x : ℕ) (t : Option (List ℕ)) → x ≡ b → cond (eqb x b) t None ≡ t
 same_byte b x t e = ap (λ v. cond v t None) (eq-eqb x b e)
@@ -20,16 +21,16 @@ stripped (b ∷ front) (x ∷ s) r h =
     let later = stripped front s r in
     grind (arith, nat_tests, later)
 
-pub one-digits : (n : ℕ) → n < 2 ^ 7 → written one_byte n ≡ n ∷ []
+pub one-digits : (n : ℕ) → n < 2 ^ 7 → written one_byte_form n ≡ n ∷ []
 one-digits n h = let e : (0 + n) % 256 ≡ n = omega arith in rw e
 
-pub two-digits : (n : ℕ) → n < 2 ^ 14 → written two_bytes n ≡ (0x80 + n / 256) ∷ n % 256 ∷ []
+pub two-digits : (n : ℕ) → n < 2 ^ 14 → written two_bytes_form n ≡ (0x80 + n / 256) ∷ n % 256 ∷ []
 two-digits n h =
     let e : (0x8000 + n) / 256 % 256 ≡ 0x80 + n / 256 = omega arith in
     let f : (0x8000 + n) % 256 ≡ n % 256 = omega arith in
     rw (e, f)
 
-pub four-digits : (n : ℕ) → n < 2 ^ 29 → written four_bytes n ≡ (0xC0 + n / 0x1000000) ∷ n / 0x10000 % 256 ∷ n / 0x100 % 256 ∷ n % 256 ∷ []
+pub four-digits : (n : ℕ) → n < 2 ^ 29 → written four_bytes_form n ≡ (0xC0 + n / 0x1000000) ∷ n / 0x10000 % 256 ∷ n / 0x100 % 256 ∷ n % 256 ∷ []
 four-digits n h =
     let e : (0xC0000000 + n) / 0x1000000 % 256 ≡ 0xC0 + n / 0x1000000 = omega arith in
     let f : (0xC0000000 + n) / 0x10000 % 256 ≡ n / 0x10000 % 256 = omega arith in
@@ -37,15 +38,15 @@ four-digits n h =
     let k : (0xC0000000 + n) % 256 ≡ n % 256 = omega arith in
     rw (e, f, g, k)
 
-pub spells-one : (n : ℕ) → n < 2 ^ 7 → spelled_number n ≡ written one_byte n
+pub spells-one : (n : ℕ) → n < 2 ^ 7 → spelled_number n ≡ written one_byte_form n
 unfolding spelled_number
 spells-one n h = grind (arith, nat_tests)
 
-pub spells-two : (n : ℕ) → 2 ^ 7 ≤ n → n < 2 ^ 14 → spelled_number n ≡ written two_bytes n
+pub spells-two : (n : ℕ) → 2 ^ 7 ≤ n → n < 2 ^ 14 → spelled_number n ≡ written two_bytes_form n
 unfolding spelled_number
 spells-two n l h = grind (arith, nat_tests)
 
-pub spells-four : (n : ℕ) → 2 ^ 14 ≤ n → n < 2 ^ 29 → spelled_number n ≡ written four_bytes n
+pub spells-four : (n : ℕ) → 2 ^ 14 ≤ n → n < 2 ^ 29 → spelled_number n ≡ written four_bytes_form n
 unfolding spelled_number
 spells-four n l h = grind (arith, nat_tests)
 
@@ -69,10 +70,10 @@ stands : (form : Form) (n : ℕ) (s r : List ℕ) → strip_form form n s ≡ So
 stands form n s r h = let p = strip_form-some form n s r h in record { fits = p.0; bytes = p.1 }
 
 -- no other form begins with such a byte
-miss-one : (n x : ℕ) (s : List ℕ) → 0x80 ≤ x → strip_form one_byte n (x ∷ s) ≡ None
+miss-one : (n x : ℕ) (s : List ℕ) → 0x80 ≤ x → strip_form one_byte_form n (x ∷ s) ≡ None
 miss-one n x s h = grind (arith, nat_tests)
 
-miss-two : (n x : ℕ) (s : List ℕ) → 0xC0 ≤ x → strip_form two_bytes n (x ∷ s) ≡ None
+miss-two : (n x : ℕ) (s : List ℕ) → 0xC0 ≤ x → strip_form two_bytes_form n (x ∷ s) ≡ None
 miss-two n x s h = grind (arith, nat_tests)
 
 pub or-first : (o p : Option (List ℕ)) (r : List ℕ) → o ≡ Some r → option_or o p ≡ Some r
@@ -81,25 +82,25 @@ or-first o p r h = ap (λ v. option_or v p) h
 pub or-second : (o p q : Option (List ℕ)) → o ≡ None → p ≡ q → option_or o p ≡ q
 or-second o p q h k = ap (λ v. option_or v p) h ∙ k
 
-pub hit-one : (n : ℕ) (r : List ℕ) → n < 2 ^ 7 → strip_number n (written one_byte n ++ r) ≡ Some r
+pub hit-one : (n : ℕ) (r : List ℕ) → n < 2 ^ 7 → strip_number n (written one_byte_form n ++ r) ≡ Some r
 unfolding strip_number
-hit-one n r h = or-first _ _ r (strip_form-hit one_byte n r h)
+hit-one n r h = or-first _ _ r (strip_form-hit one_byte_form n r h)
 
-pub hit-two : (n : ℕ) (r : List ℕ) → n < 2 ^ 14 → strip_number n (written two_bytes n ++ r) ≡ Some r
+pub hit-two : (n : ℕ) (r : List ℕ) → n < 2 ^ 14 → strip_number n (written two_bytes_form n ++ r) ≡ Some r
 unfolding strip_number
 hit-two n r h =
     let begins = ap (λ (front : List ℕ). front ++ r) (two-digits n h) in
-    let not_one = ap (strip_form one_byte n) begins ∙ miss-one n (0x80 + n / 256) (n % 256 ∷ r) (omega arith) in
-    or-second _ _ (Some r) not_one (or-first _ _ r (strip_form-hit two_bytes n r h))
+    let not_one = ap (strip_form one_byte_form n) begins ∙ miss-one n (0x80 + n / 256) (n % 256 ∷ r) (omega arith) in
+    or-second _ _ (Some r) not_one (or-first _ _ r (strip_form-hit two_bytes_form n r h))
 
-pub hit-four : (n : ℕ) (r : List ℕ) → n < 2 ^ 29 → strip_number n (written four_bytes n ++ r) ≡ Some r
+pub hit-four : (n : ℕ) (r : List ℕ) → n < 2 ^ 29 → strip_number n (written four_bytes_form n ++ r) ≡ Some r
 unfolding strip_number
 hit-four n r h =
     let more : List ℕ = n / 0x10000 % 256 ∷ n / 0x100 % 256 ∷ n % 256 ∷ r in
     let begins = ap (λ (front : List ℕ). front ++ r) (four-digits n h) in
-    let not_one = ap (strip_form one_byte n) begins ∙ miss-one n (0xC0 + n / 0x1000000) more (omega arith) in
-    let not_two = ap (strip_form two_bytes n) begins ∙ miss-two n (0xC0 + n / 0x1000000) more (omega arith) in
-    or-second _ _ (Some r) not_one (or-second _ _ (Some r) not_two (strip_form-hit four_bytes n r h))
+    let not_one = ap (strip_form one_byte_form n) begins ∙ miss-one n (0xC0 + n / 0x1000000) more (omega arith) in
+    let not_two = ap (strip_form two_bytes_form n) begins ∙ miss-two n (0xC0 + n / 0x1000000) more (omega arith) in
+    or-second _ _ (Some r) not_one (or-second _ _ (Some r) not_two (strip_form-hit four_bytes_form n r h))
 
 -- what holds of each branch holds of the choice
 pub chosen : (P : List ℕ → Type 0) (b : Bool) (x y : List ℕ) → (b ≡ true → P x) → (b ≡ false → P y) → P (cond b x y)
@@ -123,53 +124,53 @@ pub either : (o p : Option (List ℕ)) (r : List ℕ) → option_or o p ≡ Some
 either None p r h = inr h
 either (Some x) p r h = inl h
 
-read-one : (n : ℕ) (r : List ℕ) → n < 2 ^ 7 → number_at (written one_byte n ++ r) ≡ Some (n, r)
-unfolding number_at
+read-one : (n : ℕ) (r : List ℕ) → n < 2 ^ 7 → compressed_at (written one_byte_form n ++ r) ≡ Some (n, r)
+unfolding compressed_at
 read-one n r h =
     let begins = ap (λ (front : List ℕ). front ++ r) (one-digits n h) in
-    ap number_at begins ∙ grind (arith, nat_tests)
+    ap compressed_at begins ∙ grind (arith, nat_tests)
 
-two-read : (a b : ℕ) (s : List ℕ) → 0x80 ≤ a → a < 0xC0 → b < 256 → number_at (a ∷ b ∷ s) ≡ Some ((a - 0x80) * 0x100 + b, s)
-unfolding number_at
+two-read : (a b : ℕ) (s : List ℕ) → 0x80 ≤ a → a < 0xC0 → b < 256 → compressed_at (a ∷ b ∷ s) ≡ Some ((a - 0x80) * 0x100 + b, s)
+unfolding compressed_at
 two-read a b s l h k = grind (arith, nat_tests)
 
-four-read : (a b c d : ℕ) (s : List ℕ) → 0xC0 ≤ a → a < 0xE0 → b < 256 → c < 256 → d < 256 → number_at (a ∷ b ∷ c ∷ d ∷ s) ≡ Some ((a - 0xC0) * 0x1000000 + b * 0x10000 + c * 0x100 + d, s)
-unfolding number_at
+four-read : (a b c d : ℕ) (s : List ℕ) → 0xC0 ≤ a → a < 0xE0 → b < 256 → c < 256 → d < 256 → compressed_at (a ∷ b ∷ c ∷ d ∷ s) ≡ Some ((a - 0xC0) * 0x1000000 + b * 0x10000 + c * 0x100 + d, s)
+unfolding compressed_at
 four-read a b c d s l h i j k = grind (arith, nat_tests)
 
-read-two : (n : ℕ) (r : List ℕ) → n < 2 ^ 14 → number_at (written two_bytes n ++ r) ≡ Some (n, r)
+read-two : (n : ℕ) (r : List ℕ) → n < 2 ^ 14 → compressed_at (written two_bytes_form n ++ r) ≡ Some (n, r)
 read-two n r h =
     let begins = ap (λ (front : List ℕ). front ++ r) (two-digits n h) in
     let sums : ((0x80 + n / 256) - 0x80) * 0x100 + n % 256 ≡ n = omega arith in
-    ap number_at begins ∙ two-read (0x80 + n / 256) (n % 256) r (omega arith) (omega arith) (omega arith) ∙ ap (λ (m : ℕ). Some (m, r)) sums
+    ap compressed_at begins ∙ two-read (0x80 + n / 256) (n % 256) r (omega arith) (omega arith) (omega arith) ∙ ap (λ (m : ℕ). Some (m, r)) sums
 
-read-four : (n : ℕ) (r : List ℕ) → n < 2 ^ 29 → number_at (written four_bytes n ++ r) ≡ Some (n, r)
+read-four : (n : ℕ) (r : List ℕ) → n < 2 ^ 29 → compressed_at (written four_bytes_form n ++ r) ≡ Some (n, r)
 read-four n r h =
     let begins = ap (λ (front : List ℕ). front ++ r) (four-digits n h) in
     let sums : ((0xC0 + n / 0x1000000) - 0xC0) * 0x1000000 + n / 0x10000 % 256 * 0x10000 + n / 0x100 % 256 * 0x100 + n % 256 ≡ n = omega arith in
-    ap number_at begins ∙ four-read (0xC0 + n / 0x1000000) (n / 0x10000 % 256) (n / 0x100 % 256) (n % 256) r (omega arith) (omega arith) (omega arith) (omega arith) (omega arith) ∙ ap (λ (m : ℕ). Some (m, r)) sums
+    ap compressed_at begins ∙ four-read (0xC0 + n / 0x1000000) (n / 0x10000 % 256) (n / 0x100 % 256) (n % 256) r (omega arith) (omega arith) (omega arith) (omega arith) (omega arith) ∙ ap (λ (m : ℕ). Some (m, r)) sums
 
 -- a number that is stripped is the one that is read
-pub strip-number_at : (n : ℕ) (s r : List ℕ) → strip_number n s ≡ Some r → number_at s ≡ Some (n, r)
+pub strip-compressed_at : (n : ℕ) (s r : List ℕ) → strip_number n s ≡ Some r → compressed_at s ≡ Some (n, r)
 unfolding strip_number
-strip-number_at n s r h =
-    elim (either (strip_form one_byte n s) (option_or (strip_form two_bytes n s) (strip_form four_bytes n s)) r h) [
-      | inl one ↦ let p = strip_form-some one_byte n s r one in ap number_at p.1 ∙ read-one n r p.0
-      | inr more ↦ elim (either (strip_form two_bytes n s) (strip_form four_bytes n s) r more) [
-        | inl two ↦ let p = strip_form-some two_bytes n s r two in ap number_at p.1 ∙ read-two n r p.0
-        | inr four ↦ let p = strip_form-some four_bytes n s r four in ap number_at p.1 ∙ read-four n r p.0
+strip-compressed_at n s r h =
+    elim (either (strip_form one_byte_form n s) (option_or (strip_form two_bytes_form n s) (strip_form four_bytes_form n s)) r h) [
+      | inl one ↦ let p = strip_form-some one_byte_form n s r one in ap compressed_at p.1 ∙ read-one n r p.0
+      | inr more ↦ elim (either (strip_form two_bytes_form n s) (strip_form four_bytes_form n s) r more) [
+        | inl two ↦ let p = strip_form-some two_bytes_form n s r two in ap compressed_at p.1 ∙ read-two n r p.0
+        | inr four ↦ let p = strip_form-some four_bytes_form n s r four in ap compressed_at p.1 ∙ read-four n r p.0
       ]
     ]
 
 -- the bytes of the two longer forms, put together again
-two-written : (a b : ℕ) → 0x80 ≤ a → a < 0xC0 → b < 256 → written two_bytes ((a - 0x80) * 0x100 + b) ≡ a ∷ b ∷ []
+two-written : (a b : ℕ) → 0x80 ≤ a → a < 0xC0 → b < 256 → written two_bytes_form ((a - 0x80) * 0x100 + b) ≡ a ∷ b ∷ []
 two-written a b l h k =
     let n = (a - 0x80) * 0x100 + b in
     let high : 0x80 + ((a - 0x80) * 0x100 + b) / 256 ≡ a = omega arith in
     let low : ((a - 0x80) * 0x100 + b) % 256 ≡ b = omega arith in
     two-digits n (omega arith) ∙ rw (high, low)
 
-four-written : (a b c d : ℕ) → 0xC0 ≤ a → a < 0xE0 → b < 256 → c < 256 → d < 256 → written four_bytes ((a - 0xC0) * 0x1000000 + b * 0x10000 + c * 0x100 + d) ≡ a ∷ b ∷ c ∷ d ∷ []
+four-written : (a b c d : ℕ) → 0xC0 ≤ a → a < 0xE0 → b < 256 → c < 256 → d < 256 → written four_bytes_form ((a - 0xC0) * 0x1000000 + b * 0x10000 + c * 0x100 + d) ≡ a ∷ b ∷ c ∷ d ∷ []
 four-written a b c d l h i j k =
     let n = (a - 0xC0) * 0x1000000 + b * 0x10000 + c * 0x100 + d in
     let first : 0xC0 + ((a - 0xC0) * 0x1000000 + b * 0x10000 + c * 0x100 + d) / 0x1000000 ≡ a = omega arith in
@@ -197,10 +198,6 @@ above n m h = grind (arith, nat_tests)
 abbrev Found : Type 0
 Found = Option (ℕ × List ℕ)
 
-split : (P : Type 0) (t : Bool) (x y z : Found) → cond t x y ≡ z → (t ≡ true → x ≡ z → P) → (t ≡ false → y ≡ z → P) → P
-split P true x y z h one two = one refl h
-split P false x y z h one two = two refl h
-
 pub same_pair : (m n : ℕ) (q r : List ℕ) → ◌≡◌ {A = Found} (Some (m, q)) (Some (n, r)) → (m ≡ n) × (q ≡ r)
 same_pair m n q r h = (ap (λ (o : Found). option_map_or (λ p. p.0) o 0) h, ap (λ (o : Found). option_map_or (λ p. p.1) o []) h)
 
@@ -213,7 +210,7 @@ moved m n s r q h e =
 two_at-strips : (a : ℕ) (s : List ℕ) (n : ℕ) (r : List ℕ) → 0x80 ≤ a → a < 0xC0 → two_at (a - 0x80) s ≡ Some (n, r) → strip_number n (a ∷ s) ≡ Some r
 two_at-strips a [] n r l h e = cc
 two_at-strips a (b ∷ s) n r l h e =
-    split (strip_number n (a ∷ b ∷ s) ≡ Some r) (ltb b 256) _ _ _ e
+    split {P = strip_number n (a ∷ b ∷ s) ≡ Some r} (ltb b 256) _ _ _ e
     (λ t found. moved _ n s r (a ∷ b ∷ s) (two-strips a b s l h (below b 256 t)) found)
     (λ _ found. cc)
 
@@ -225,50 +222,50 @@ four_at-strips a [] n r l h e = cc
 four_at-strips a (b ∷ []) n r l h e = cc
 four_at-strips a (b ∷ c ∷ []) n r l h e = cc
 four_at-strips a (b ∷ c ∷ d ∷ s) n r l h e =
-    split (strip_number n (a ∷ b ∷ c ∷ d ∷ s) ≡ Some r) (ltb b 256 && ltb c 256 && ltb d 256) _ _ _ e
+    split {P = strip_number n (a ∷ b ∷ c ∷ d ∷ s) ≡ Some r} (ltb b 256 && ltb c 256 && ltb d 256) _ _ _ e
     (λ t found. let p = all_bytes b c d t in moved _ n s r (a ∷ b ∷ c ∷ d ∷ s) (four-strips a b c d s l h p.0 p.1 p.2) found)
     (λ _ found. cc)
 
 -- a number that is read is stripped
-pub number_at-strip : (s : List ℕ) (n : ℕ) (r : List ℕ) → number_at s ≡ Some (n, r) → strip_number n s ≡ Some r
-unfolding number_at
-number_at-strip [] n r h = cc
-number_at-strip (a ∷ s) n r h =
-    split (strip_number n (a ∷ s) ≡ Some r) (ltb a 0x80) _ _ _ h
+pub compressed_at-strip : (s : List ℕ) (n : ℕ) (r : List ℕ) → compressed_at s ≡ Some (n, r) → strip_number n s ≡ Some r
+unfolding compressed_at
+compressed_at-strip [] n r h = cc
+compressed_at-strip (a ∷ s) n r h =
+    split {P = strip_number n (a ∷ s) ≡ Some r} (ltb a 0x80) _ _ _ h
     (λ t found. moved a n s r (a ∷ s) (one-strips a s (below a 0x80 t)) found)
-    (λ f more. split (strip_number n (a ∷ s) ≡ Some r) (ltb a 0xC0) _ _ _ more
+    (λ f more. split {P = strip_number n (a ∷ s) ≡ Some r} (ltb a 0xC0) _ _ _ more
     (λ t found. two_at-strips a s n r (above a 0x80 f) (below a 0xC0 t) found)
-    (λ g last. split (strip_number n (a ∷ s) ≡ Some r) (ltb a 0xE0) _ _ _ last
+    (λ g last. split {P = strip_number n (a ∷ s) ≡ Some r} (ltb a 0xE0) _ _ _ last
     (λ t found. four_at-strips a s n r (above a 0xC0 g) (below a 0xE0 t) found)
     (λ _ none. cc)))
 
 -- at most one number is stripped from given bytes, in one way
 pub same_number : (m n : ℕ) (s q r : List ℕ) → strip_number m s ≡ Some q → strip_number n s ≡ Some r → (m ≡ n) × (q ≡ r)
-same_number m n s q r h k = same_pair m n q r (sym (strip-number_at m s q h) ∙ strip-number_at n s r k)
+same_number m n s q r h k = same_pair m n q r (sym (strip-compressed_at m s q h) ∙ strip-compressed_at n s r k)
 
 -- where no number is stripped none is read, and the other way round
-pub none-number_at : (s : List ℕ) → ((n : ℕ) → strip_number n s ≡ None) → number_at s ≡ None
-none-number_at s h =
-    elim (number_at s) as (λ found. number_at s ≡ found → found ≡ None) [
+pub none-compressed_at : (s : List ℕ) → ((n : ℕ) → strip_number n s ≡ None) → compressed_at s ≡ None
+none-compressed_at s h =
+    elim (compressed_at s) as (λ found. compressed_at s ≡ found → found ≡ None) [
       | None ↦ λ _. refl
-      | Some p ↦ λ e. let found = number_at-strip s p.0 p.1 e in let none = h p.0 in cc
+      | Some p ↦ λ e. let found = compressed_at-strip s p.0 p.1 e in let none = h p.0 in cc
     ] refl
 
-pub number_at-none : (s : List ℕ) (n : ℕ) → number_at s ≡ None → strip_number n s ≡ None
-number_at-none s n h =
+pub compressed_at-none : (s : List ℕ) (n : ℕ) → compressed_at s ≡ None → strip_number n s ≡ None
+compressed_at-none s n h =
     elim (strip_number n s) as (λ found. strip_number n s ≡ found → found ≡ None) [
       | None ↦ λ _. refl
-      | Some r ↦ λ e. let found = strip-number_at n s r e in cc
+      | Some r ↦ λ e. let found = strip-compressed_at n s r e in cc
     ] refl
 
 -- the form that stands at the front of the bytes
-pub forms : (n : ℕ) (s r : List ℕ) → strip_number n s ≡ Some r → (Stands one_byte n s r) ⊎ ((Stands two_bytes n s r) ⊎ (Stands four_bytes n s r))
+pub forms : (n : ℕ) (s r : List ℕ) → strip_number n s ≡ Some r → (Stands one_byte_form n s r) ⊎ ((Stands two_bytes_form n s r) ⊎ (Stands four_bytes_form n s r))
 unfolding strip_number
 forms n s r h =
-    elim (either (strip_form one_byte n s) (option_or (strip_form two_bytes n s) (strip_form four_bytes n s)) r h) [
-      | inl one ↦ inl (stands one_byte n s r one)
-      | inr more ↦ elim (either (strip_form two_bytes n s) (strip_form four_bytes n s) r more) [
-        | inl two ↦ inr (inl (stands two_bytes n s r two))
-        | inr four ↦ inr (inr (stands four_bytes n s r four))
+    elim (either (strip_form one_byte_form n s) (option_or (strip_form two_bytes_form n s) (strip_form four_bytes_form n s)) r h) [
+      | inl one ↦ inl (stands one_byte_form n s r one)
+      | inr more ↦ elim (either (strip_form two_bytes_form n s) (strip_form four_bytes_form n s) r more) [
+        | inl two ↦ inr (inl (stands two_bytes_form n s r two))
+        | inr four ↦ inr (inr (stands four_bytes_form n s r four))
       ]
     ]

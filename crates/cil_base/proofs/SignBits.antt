@@ -2,7 +2,7 @@
 use Rattle.std.proofs.Common.{◌≡◌, ℕ, suc, ◌+◌, ◌-◌, ◌*◌, ◌/◌, ◌%◌, ◌^◌, ◌<◌, ℤ, pos, negsuc, true, false, cond, refl, ap, arith, eqb, ltb}
 use Rattle.std.proofs.lemmas.Bool.Decides.{nat_tests}
 use Rattle.cil_base.specs.Signed.{is_within, in_bits, rotated}
-use Rattle.cil_base.specs.Reading.{rotated_at, unrotated}
+use Rattle.cil_base.specs.inner.Reading.{rotated_at, unrotated}
 
 -- the rotated bits of a number, for each form
 pub rotates-7 : (z : ℤ) → is_within 7 z ≡ true → rotated 7 (in_bits 7 z) < 2 ^ 7

@@ -5,10 +5,10 @@ use Rattle.std.proofs.lemmas.Bool.Decides.{nat_tests}
 use Rattle.std.proofs.lemmas.Int.{ints, to_z-of_z}
 use mir.Val.{SFits}
 use Rattle.std.proofs.lemmas.List.{append-nil, length-drop}
-use Rattle.cil_base.specs.Number.{Form, one_byte, two_bytes, four_bytes, written, strip_bytes, strip_number}
+use Rattle.cil_base.specs.Number.{Form, one_byte_form, two_bytes_form, four_bytes_form, written, strip_bytes, strip_number}
 use Rattle.cil_base.specs.Signed.{is_within, in_bits, rotated, written_signed, strip_signed_form, strip_signed, spelled_signed}
-use Rattle.cil_base.specs.Reading.{number_at, rotated_at, unrotated, bits_of, signed_of, signed_at}
-use Rattle.cil_base.proofs.NumberLemmas.{strip-bytes, stripped, two-digits, four-digits, either, or-first, or-second, chosen, forms, Stands, hit-one, hit-two, hit-four, strip-number_at, number_at-strip, none-number_at}
+use Rattle.cil_base.specs.inner.Reading.{compressed_at, rotated_at, unrotated, bits_of, signed_of, signed_at}
+use Rattle.cil_base.proofs.NumberLemmas.{strip-bytes, stripped, two-digits, four-digits, either, or-first, or-second, chosen, forms, Stands, hit-one, hit-two, hit-four, strip-compressed_at, compressed_at-strip, none-compressed_at}
 use Rattle.cil_base.proofs.SignBits.{rotates-7, rotates-14, rotates-29, unrotates-7, unrotates-14, unrotates-29, back-7, back-14, back-29, turns-7, turns-14, turns-29, within_test}
 
 form-hit : (form : Form) (z : ℤ) (r : List ℕ) → is_within form.bits z ≡ true → strip_signed_form form z (written_signed form z ++ r) ≡ Some r
@@ -22,51 +22,51 @@ form-some form z s r h =
     ] refl h
 
 -- no other form begins with such a byte
-miss-one : (z : ℤ) (x : ℕ) (s : List ℕ) → 0x80 ≤ x → strip_signed_form one_byte z (x ∷ s) ≡ None
+miss-one : (z : ℤ) (x : ℕ) (s : List ℕ) → 0x80 ≤ x → strip_signed_form one_byte_form z (x ∷ s) ≡ None
 miss-one z x s h =
-    elim (strip_signed_form one_byte z (x ∷ s)) as (λ found. strip_signed_form one_byte z (x ∷ s) ≡ found → found ≡ None) [
+    elim (strip_signed_form one_byte_form z (x ∷ s)) as (λ found. strip_signed_form one_byte_form z (x ∷ s) ≡ found → found ≡ None) [
       | None ↦ λ _. refl
       | Some r ↦ λ e.
-          let p = form-some one_byte z (x ∷ s) r e in
+          let p = form-some one_byte_form z (x ∷ s) r e in
           let l = rotates-7 z p.0 in
           let first : x ≡ (0 + rotated 7 (in_bits 7 z)) % 256 = cc in
           absurd (omega arith)
     ] refl
 
-miss-two : (z : ℤ) (x : ℕ) (s : List ℕ) → 0xC0 ≤ x → strip_signed_form two_bytes z (x ∷ s) ≡ None
+miss-two : (z : ℤ) (x : ℕ) (s : List ℕ) → 0xC0 ≤ x → strip_signed_form two_bytes_form z (x ∷ s) ≡ None
 miss-two z x s h =
-    elim (strip_signed_form two_bytes z (x ∷ s)) as (λ found. strip_signed_form two_bytes z (x ∷ s) ≡ found → found ≡ None) [
+    elim (strip_signed_form two_bytes_form z (x ∷ s)) as (λ found. strip_signed_form two_bytes_form z (x ∷ s) ≡ found → found ≡ None) [
       | None ↦ λ _. refl
       | Some r ↦ λ e.
-          let p = form-some two_bytes z (x ∷ s) r e in
+          let p = form-some two_bytes_form z (x ∷ s) r e in
           let l = rotates-14 z p.0 in
           let first : x ≡ (0x8000 + rotated 14 (in_bits 14 z)) / 256 % 256 = cc in
           absurd (omega arith)
     ] refl
 
-pub signed-hit_one : (z : ℤ) (r : List ℕ) → is_within 7 z ≡ true → strip_signed z (written_signed one_byte z ++ r) ≡ Some r
+pub signed-hit_one : (z : ℤ) (r : List ℕ) → is_within 7 z ≡ true → strip_signed z (written_signed one_byte_form z ++ r) ≡ Some r
 unfolding strip_signed
-signed-hit_one z r h = or-first _ _ r (form-hit one_byte z r h)
+signed-hit_one z r h = or-first _ _ r (form-hit one_byte_form z r h)
 
-pub signed-hit_two : (z : ℤ) (r : List ℕ) → is_within 14 z ≡ true → strip_signed z (written_signed two_bytes z ++ r) ≡ Some r
+pub signed-hit_two : (z : ℤ) (r : List ℕ) → is_within 14 z ≡ true → strip_signed z (written_signed two_bytes_form z ++ r) ≡ Some r
 unfolding strip_signed
 signed-hit_two z r h =
     let n = rotated 14 (in_bits 14 z) in
     let l = rotates-14 z h in
     let begins = ap (λ (front : List ℕ). front ++ r) (two-digits n l) in
-    let not_one = ap (strip_signed_form one_byte z) begins ∙ miss-one z (0x80 + n / 256) (n % 256 ∷ r) (omega arith) in
-    or-second _ _ (Some r) not_one (or-first _ _ r (form-hit two_bytes z r h))
+    let not_one = ap (strip_signed_form one_byte_form z) begins ∙ miss-one z (0x80 + n / 256) (n % 256 ∷ r) (omega arith) in
+    or-second _ _ (Some r) not_one (or-first _ _ r (form-hit two_bytes_form z r h))
 
-pub signed-hit_four : (z : ℤ) (r : List ℕ) → is_within 29 z ≡ true → strip_signed z (written_signed four_bytes z ++ r) ≡ Some r
+pub signed-hit_four : (z : ℤ) (r : List ℕ) → is_within 29 z ≡ true → strip_signed z (written_signed four_bytes_form z ++ r) ≡ Some r
 unfolding strip_signed
 signed-hit_four z r h =
     let n = rotated 29 (in_bits 29 z) in
     let l = rotates-29 z h in
     let more : List ℕ = n / 0x10000 % 256 ∷ n / 0x100 % 256 ∷ n % 256 ∷ r in
     let begins = ap (λ (front : List ℕ). front ++ r) (four-digits n l) in
-    let not_one = ap (strip_signed_form one_byte z) begins ∙ miss-one z (0xC0 + n / 0x1000000) more (omega arith) in
-    let not_two = ap (strip_signed_form two_bytes z) begins ∙ miss-two z (0xC0 + n / 0x1000000) more (omega arith) in
-    or-second _ _ (Some r) not_one (or-second _ _ (Some r) not_two (form-hit four_bytes z r h))
+    let not_one = ap (strip_signed_form one_byte_form z) begins ∙ miss-one z (0xC0 + n / 0x1000000) more (omega arith) in
+    let not_two = ap (strip_signed_form two_bytes_form z) begins ∙ miss-two z (0xC0 + n / 0x1000000) more (omega arith) in
+    or-second _ _ (Some r) not_one (or-second _ _ (Some r) not_two (form-hit four_bytes_form z r h))
 
 -- the shortest form is stripped off whatever follows it
 pub strip-spelled_signed : (z : ℤ) (r : List ℕ) → is_within 29 z ≡ true → strip_signed z (spelled_signed z ++ r) ≡ Some r
@@ -79,25 +79,25 @@ pub strip-whole_signed : (z : ℤ) (s : List ℕ) → is_within 29 z ≡ true �
 strip-whole_signed z s h e = ap (strip_signed z) (e ∙ sym (append-nil (spelled_signed z))) ∙ strip-spelled_signed z [] h
 
 -- the number that another spells in its form is stripped where that one is
-pub stands-one : (n : ℕ) (s r : List ℕ) → Stands one_byte n s r → (length s - length r ≡ 1) × (strip_signed (unrotated 7 n) s ≡ Some r)
+pub stands-one : (n : ℕ) (s r : List ℕ) → Stands one_byte_form n s r → (length s - length r ≡ 1) × (strip_signed (unrotated 7 n) s ≡ Some r)
 stands-one n s r h =
     let b = back-7 n h.fits in
     let l = ap length h.bytes in
-    let same = ap (λ (m : ℕ). written one_byte m ++ r) (sym b.bits_are) in
+    let same = ap (λ (m : ℕ). written one_byte_form m ++ r) (sym b.bits_are) in
     (omega arith, ap (strip_signed (unrotated 7 n)) (h.bytes ∙ same) ∙ signed-hit_one (unrotated 7 n) r b.within)
 
-pub stands-two : (n : ℕ) (s r : List ℕ) → Stands two_bytes n s r → (length s - length r ≡ 2) × (strip_signed (unrotated 14 n) s ≡ Some r)
+pub stands-two : (n : ℕ) (s r : List ℕ) → Stands two_bytes_form n s r → (length s - length r ≡ 2) × (strip_signed (unrotated 14 n) s ≡ Some r)
 stands-two n s r h =
     let b = back-14 n h.fits in
     let l = ap length h.bytes in
-    let same = ap (λ (m : ℕ). written two_bytes m ++ r) (sym b.bits_are) in
+    let same = ap (λ (m : ℕ). written two_bytes_form m ++ r) (sym b.bits_are) in
     (omega arith, ap (strip_signed (unrotated 14 n)) (h.bytes ∙ same) ∙ signed-hit_two (unrotated 14 n) r b.within)
 
-pub stands-four : (n : ℕ) (s r : List ℕ) → Stands four_bytes n s r → (length s - length r ≡ 4) × (strip_signed (unrotated 29 n) s ≡ Some r)
+pub stands-four : (n : ℕ) (s r : List ℕ) → Stands four_bytes_form n s r → (length s - length r ≡ 4) × (strip_signed (unrotated 29 n) s ≡ Some r)
 stands-four n s r h =
     let b = back-29 n h.fits in
     let l = ap length h.bytes in
-    let same = ap (λ (m : ℕ). written four_bytes m ++ r) (sym b.bits_are) in
+    let same = ap (λ (m : ℕ). written four_bytes_form m ++ r) (sym b.bits_are) in
     (omega arith, ap (strip_signed (unrotated 29 n)) (h.bytes ∙ same) ∙ signed-hit_four (unrotated 29 n) r b.within)
 
 -- the bits of the form that stands there hold the number, and it is stripped as the signed number of these bits
@@ -122,31 +122,31 @@ same_signed_pair y z q r h = (ap (λ (o : Option (ℤ × List ℕ)). option_map_
 pub signed_at-strip : (s : List ℕ) (z : ℤ) (r : List ℕ) → signed_at s ≡ Some (z, r) → strip_signed z s ≡ Some r
 unfolding signed_at
 signed_at-strip s z r h =
-    elim (number_at s) as (λ found. number_at s ≡ found → signed_of s found ≡ Some (z, r) → strip_signed z s ≡ Some r) [
+    elim (compressed_at s) as (λ found. compressed_at s ≡ found → signed_of s found ≡ Some (z, r) → strip_signed z s ≡ Some r) [
       | None ↦ λ e k. cc
       | Some p ↦ λ e k.
-          let q = number-signed p.0 s p.1 (number_at-strip s p.0 p.1 e) in
+          let q = number-signed p.0 s p.1 (compressed_at-strip s p.0 p.1 e) in
           let same = same_signed_pair (unrotated (bits_of (length s - length p.1)) p.0) z p.1 r k in
           ap (λ (y : ℤ). strip_signed y s) (sym same.0) ∙ q.strips ∙ ap (λ (rest : List ℕ). Some rest) same.1
     ] refl h
 
 -- a signed number that is stripped is the one that is read
 signed-forms : (P : Type 0) (z : ℤ) (s r : List ℕ) → strip_signed z s ≡ Some r
-    → (is_within 7 z ≡ true → s ≡ written_signed one_byte z ++ r → P) → (is_within 14 z ≡ true → s ≡ written_signed two_bytes z ++ r → P) → (is_within 29 z ≡ true → s ≡ written_signed four_bytes z ++ r → P) → P
+    → (is_within 7 z ≡ true → s ≡ written_signed one_byte_form z ++ r → P) → (is_within 14 z ≡ true → s ≡ written_signed two_bytes_form z ++ r → P) → (is_within 29 z ≡ true → s ≡ written_signed four_bytes_form z ++ r → P) → P
 unfolding strip_signed
 signed-forms P z s r h one two four =
-    elim (either (strip_signed_form one_byte z s) (option_or (strip_signed_form two_bytes z s) (strip_signed_form four_bytes z s)) r h) [
-      | inl a ↦ let p = form-some one_byte z s r a in one p.0 p.1
-      | inr more ↦ elim (either (strip_signed_form two_bytes z s) (strip_signed_form four_bytes z s) r more) [
-        | inl b ↦ let p = form-some two_bytes z s r b in two p.0 p.1
-        | inr c ↦ let p = form-some four_bytes z s r c in four p.0 p.1
+    elim (either (strip_signed_form one_byte_form z s) (option_or (strip_signed_form two_bytes_form z s) (strip_signed_form four_bytes_form z s)) r h) [
+      | inl a ↦ let p = form-some one_byte_form z s r a in one p.0 p.1
+      | inr more ↦ elim (either (strip_signed_form two_bytes_form z s) (strip_signed_form four_bytes_form z s) r more) [
+        | inl b ↦ let p = form-some two_bytes_form z s r b in two p.0 p.1
+        | inr c ↦ let p = form-some four_bytes_form z s r c in four p.0 p.1
       ]
     ]
 
 signed-from : (n width bits : ℕ) (z : ℤ) (s r : List ℕ) → strip_number n s ≡ Some r → length s - length r ≡ width → bits_of width ≡ bits → unrotated bits n ≡ z → signed_at s ≡ Some (z, r)
 unfolding signed_at
 signed-from n width bits z s r h w b e =
-    ap (signed_of s) (strip-number_at n s r h) ∙ ap (λ (k : ℕ). Some (unrotated (bits_of k) n, r)) w ∙ ap (λ (k : ℕ). Some (unrotated k n, r)) b ∙ ap (λ (y : ℤ). Some (y, r)) e
+    ap (signed_of s) (strip-compressed_at n s r h) ∙ ap (λ (k : ℕ). Some (unrotated (bits_of k) n, r)) w ∙ ap (λ (k : ℕ). Some (unrotated k n, r)) b ∙ ap (λ (y : ℤ). Some (y, r)) e
 
 pub strip-signed_at : (z : ℤ) (s r : List ℕ) → strip_signed z s ≡ Some r → signed_at s ≡ Some (z, r)
 strip-signed_at z s r h =
@@ -172,7 +172,7 @@ none-signed s z h =
 
 pub number-none_signed : (s : List ℕ) (z : ℤ) → ((n : ℕ) → strip_number n s ≡ None) → strip_signed z s ≡ None
 unfolding signed_at
-number-none_signed s z h = none-signed s z (ap (signed_of s) (none-number_at s h))
+number-none_signed s z h = none-signed s z (ap (signed_of s) (none-compressed_at s h))
 
 -- the same at a place: what stays is what lies after so many bytes
 pub signed-there : (n width : ℕ) (s : List ℕ) → strip_number n s ≡ Some (drop width s) → width ≤ length s → Signs n width s (drop width s)
@@ -189,20 +189,20 @@ cond-is : (b v : Bool) (x y : List ℕ) → b ≡ v → cond b x y ≡ cond v x 
 cond-is b v x y h = ap (λ (t : Bool). cond t x y) h
 
 -- the shortest form, from the number's bits
-pub signed-spells_one : (n : ℕ) (z : ℤ) → is_within 7 z ≡ true → n ≡ rotated_at 64 z → written one_byte n ≡ spelled_signed z
+pub signed-spells_one : (n : ℕ) (z : ℤ) → is_within 7 z ≡ true → n ≡ rotated_at 64 z → written one_byte_form n ≡ spelled_signed z
 unfolding spelled_signed
 signed-spells_one n z h e =
-    ap (written one_byte) (e ∙ turns-7 z h) ∙ sym (cond-is (is_within 7 z) true _ _ h)
+    ap (written one_byte_form) (e ∙ turns-7 z h) ∙ sym (cond-is (is_within 7 z) true _ _ h)
 
-pub signed-spells_two : (n : ℕ) (z : ℤ) → is_within 7 z ≡ false → is_within 14 z ≡ true → n ≡ rotated_at 8192 z → written two_bytes n ≡ spelled_signed z
+pub signed-spells_two : (n : ℕ) (z : ℤ) → is_within 7 z ≡ false → is_within 14 z ≡ true → n ≡ rotated_at 8192 z → written two_bytes_form n ≡ spelled_signed z
 unfolding spelled_signed
 signed-spells_two n z f h e =
-    ap (written two_bytes) (e ∙ turns-14 z h) ∙ sym (cond-is (is_within 7 z) false _ _ f ∙ cond-is (is_within 14 z) true _ _ h)
+    ap (written two_bytes_form) (e ∙ turns-14 z h) ∙ sym (cond-is (is_within 7 z) false _ _ f ∙ cond-is (is_within 14 z) true _ _ h)
 
-pub signed-spells_four : (n : ℕ) (z : ℤ) → is_within 7 z ≡ false → is_within 14 z ≡ false → is_within 29 z ≡ true → n ≡ rotated_at 268435456 z → written four_bytes n ≡ spelled_signed z
+pub signed-spells_four : (n : ℕ) (z : ℤ) → is_within 7 z ≡ false → is_within 14 z ≡ false → is_within 29 z ≡ true → n ≡ rotated_at 268435456 z → written four_bytes_form n ≡ spelled_signed z
 unfolding spelled_signed
 signed-spells_four n z f g h e =
-    ap (written four_bytes) (e ∙ turns-29 z h) ∙ sym (cond-is (is_within 7 z) false _ _ f ∙ cond-is (is_within 14 z) false _ _ g)
+    ap (written four_bytes_form) (e ∙ turns-29 z h) ∙ sym (cond-is (is_within 7 z) false _ _ f ∙ cond-is (is_within 14 z) false _ _ g)
 
 -- what the writer's tests say
 abbrev Between : ℤ → ℤ → ℤ → Bool

@@ -1,8 +1,9 @@
 pub mod Escape
 pub mod Heaps
 pub mod Number
-pub mod Reading
+pub mod Place
 pub mod Signed
+pub mod Steps
 pub mod Token
-pub mod Written
 pub mod formers
+pub mod inner

@@ -16,16 +16,16 @@ pub record Form : Type 0 where
   pub mark : ℕ
 
 -- 0bbbbbbb
-abbrev pub one_byte : Form
-one_byte = record { width = 1; bits = 7; mark = 0 }
+abbrev pub one_byte_form : Form
+one_byte_form = record { width = 1; bits = 7; mark = 0 }
 
 -- 10bbbbbb x
-abbrev pub two_bytes : Form
-two_bytes = record { width = 2; bits = 14; mark = 0x8000 }
+abbrev pub two_bytes_form : Form
+two_bytes_form = record { width = 2; bits = 14; mark = 0x8000 }
 
 -- 110bbbbb x y z
-abbrev pub four_bytes : Form
-four_bytes = record { width = 4; bits = 29; mark = 0xC0000000 }
+abbrev pub four_bytes_form : Form
+four_bytes_form = record { width = 4; bits = 29; mark = 0xC0000000 }
 
 -- the number under the form's mark, the most significant byte first
 abbrev pub written : Form → ℕ → List ℕ
@@ -37,8 +37,13 @@ strip_form form n s = if nat_lt n (2 ^ form.bits) then strip_bytes (written form
 
 -- what stays after the number in any form that holds it
 unfoldable pub strip_number : ℕ → List ℕ → Option (List ℕ)
-strip_number n s = option_or (strip_form one_byte n s) (option_or (strip_form two_bytes n s) (strip_form four_bytes n s))
+strip_number n s =
+    option_or (strip_form one_byte_form n s)
+    (option_or (strip_form two_bytes_form n s) (strip_form four_bytes_form n s))
 
 -- a number below 2^29 in the shortest form that holds it
 unfoldable pub spelled_number : ℕ → List ℕ
-spelled_number n = if nat_lt n (2 ^ 7) then written one_byte n else if nat_lt n (2 ^ 14) then written two_bytes n else written four_bytes n
+spelled_number n =
+    if nat_lt n (2 ^ 7) then written one_byte_form n
+    else if nat_lt n (2 ^ 14) then written two_bytes_form n
+    else written four_bytes_form n

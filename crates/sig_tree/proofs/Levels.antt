@@ -1,7 +1,7 @@
 -- Types: what is read is what is stripped, level by level.
 use Rattle.std.proofs.Common.{◌≡◌, ℕ, suc, zero, ◌-◌, List, [], ◌∷◌, Bool, true, false, cond, eqb, Option, Some, None, refl, sym, ap, subst, ◌∙◌}
 use Rattle.cil_base.specs.Token.{Token}
-use Rattle.cil_base.specs.Reading.{number_at}
+use Rattle.cil_base.specs.inner.Reading.{compressed_at}
 use Rattle.sig_tree.specs.Symbols.{Byte, strip_symbols}
 use Rattle.sig_tree.specs.Spelling.{type_symbols}
 use Rattle.sig_tree.specs.Bounds.{is_prim, type_fits}
@@ -37,8 +37,8 @@ level_sound d exact free b t s r h =
     let l7 = cond (eqb b 0x1b) (wrap FnPtr (method_at (type_at d) s)) l8 in
     let l6 = cond (eqb b 0x15) (inst_at (type_at d) s) l7 in
     let l5 = cond (eqb b 0x14) (array_at (type_at d) s) l6 in
-    let l4 = cond (eqb b 0x1e) (wrap MVar (number_at s)) l5 in
-    let l3 = cond (eqb b 0x13) (wrap Var (number_at s)) l4 in
+    let l4 = cond (eqb b 0x1e) (wrap MVar (compressed_at s)) l5 in
+    let l3 = cond (eqb b 0x13) (wrap Var (compressed_at s)) l4 in
     let l2 = cond (eqb b 0x12) (wrap Class (type_token_at s)) l3 in
     let l1 = cond (eqb b 0x11) (wrap Value (type_token_at s)) l2 in
     split {P = TypeFound d t (b ∷ s) r} (is_prim b) (Some (Prim b, s)) l1 (Some (t, r)) h
@@ -48,8 +48,8 @@ level_sound d exact free b t s r h =
     }))
     (λ e f. split {P = TypeFound d t (b ∷ s) r} (eqb b 0x11) (wrap Value (type_token_at s)) l2 (Some (t, r)) f (λ e f. at_byte d b 0x11 t s r e (sound-Value d t s r f))
     (λ e f. split {P = TypeFound d t (b ∷ s) r} (eqb b 0x12) (wrap Class (type_token_at s)) l3 (Some (t, r)) f (λ e f. at_byte d b 0x12 t s r e (sound-Class d t s r f))
-    (λ e f. split {P = TypeFound d t (b ∷ s) r} (eqb b 0x13) (wrap Var (number_at s)) l4 (Some (t, r)) f (λ e f. at_byte d b 0x13 t s r e (sound-Var d t s r f))
-    (λ e f. split {P = TypeFound d t (b ∷ s) r} (eqb b 0x1e) (wrap MVar (number_at s)) l5 (Some (t, r)) f (λ e f. at_byte d b 0x1e t s r e (sound-MVar d t s r f))
+    (λ e f. split {P = TypeFound d t (b ∷ s) r} (eqb b 0x13) (wrap Var (compressed_at s)) l4 (Some (t, r)) f (λ e f. at_byte d b 0x13 t s r e (sound-Var d t s r f))
+    (λ e f. split {P = TypeFound d t (b ∷ s) r} (eqb b 0x1e) (wrap MVar (compressed_at s)) l5 (Some (t, r)) f (λ e f. at_byte d b 0x1e t s r e (sound-MVar d t s r f))
     (λ e f. split {P = TypeFound d t (b ∷ s) r} (eqb b 0x14) (array_at (type_at d) s) l6 (Some (t, r)) f (λ e f. at_byte d b 0x14 t s r e (sound-Array d exact t s r f))
     (λ e f. split {P = TypeFound d t (b ∷ s) r} (eqb b 0x15) (inst_at (type_at d) s) l7 (Some (t, r)) f (λ e f. at_byte d b 0x15 t s r e (sound-Inst d exact t s r f))
     (λ e f. split {P = TypeFound d t (b ∷ s) r} (eqb b 0x1b) (wrap FnPtr (method_at (type_at d) s)) l8 (Some (t, r)) f (λ e f. at_byte d b 0x1b t s r e (sound-FnPtr d exact free t s r f))
@@ -81,7 +81,7 @@ unfolding Full type_at level_at
 prim_full d code = λ s r h k.
     let b = begins_with code [] s r (sym (ap (λ ys. strip_symbols ys s) (row-Prim code)) ∙ h) in
     ap (type_at (suc d)) b.front
-    ∙ ap (λ (v : Bool). cond {A = Option (TypeSig × List ℕ)} v (Some (Prim code, b.rest)) ((cond (eqb code 0x11) (wrap Value (type_token_at b.rest)) (cond (eqb code 0x12) (wrap Class (type_token_at b.rest)) (cond (eqb code 0x13) (wrap Var (number_at b.rest)) (cond (eqb code 0x1e) (wrap MVar (number_at b.rest)) (cond (eqb code 0x14) (array_at (type_at d) b.rest) (cond (eqb code 0x15) (inst_at (type_at d) b.rest) (cond (eqb code 0x1b) (wrap FnPtr (method_at (type_at d) b.rest)) (cond (eqb code 0x1f) (mod_at (type_at d) true b.rest) (cond (eqb code 0x20) (mod_at (type_at d) false b.rest) (wrapped_at (type_at d) code b.rest)))))))))))) (sym (fit-Prim code d) ∙ k)
+    ∙ ap (λ (v : Bool). cond {A = Option (TypeSig × List ℕ)} v (Some (Prim code, b.rest)) ((cond (eqb code 0x11) (wrap Value (type_token_at b.rest)) (cond (eqb code 0x12) (wrap Class (type_token_at b.rest)) (cond (eqb code 0x13) (wrap Var (compressed_at b.rest)) (cond (eqb code 0x1e) (wrap MVar (compressed_at b.rest)) (cond (eqb code 0x14) (array_at (type_at d) b.rest) (cond (eqb code 0x15) (inst_at (type_at d) b.rest) (cond (eqb code 0x1b) (wrap FnPtr (method_at (type_at d) b.rest)) (cond (eqb code 0x1f) (mod_at (type_at d) true b.rest) (cond (eqb code 0x20) (mod_at (type_at d) false b.rest) (wrapped_at (type_at d) code b.rest)))))))))))) (sym (fit-Prim code d) ∙ k)
     ∙ ap (λ r. Some (Prim code, r)) (same_some b.rest r b.then)
 
 open_full : (d : ℕ) → Exactly d → ((s : List ℕ) → type_at d (0x41 ∷ s) ≡ None) → (x : TypeSig-F TypeSig MethodSig) → Full d (roll-TypeSig x)
@@ -91,8 +91,8 @@ open_full d exact free (TypeSig-F.Ptr u) = subst (Full d) (sym (rolls-Ptr u)) (�
 open_full d exact free (TypeSig-F.ByRef u) = subst (Full d) (sym (rolls-ByRef u)) (λ s r h k. reach d 0x10 (λ s. wrap ByRef (type_at d s)) (ByRef u) s r (λ s. refl) (full-ByRef d exact u s r h k))
 open_full d exact free (TypeSig-F.Value of) = subst (Full d) (sym (rolls-Value of)) (λ s r h k. reach d 0x11 (λ s. wrap Value (type_token_at s)) (Value of) s r (λ s. refl) (full-Value d of s r h k))
 open_full d exact free (TypeSig-F.Class of) = subst (Full d) (sym (rolls-Class of)) (λ s r h k. reach d 0x12 (λ s. wrap Class (type_token_at s)) (Class of) s r (λ s. refl) (full-Class d of s r h k))
-open_full d exact free (TypeSig-F.Var n) = subst (Full d) (sym (rolls-Var n)) (λ s r h k. reach d 0x13 (λ s. wrap Var (number_at s)) (Var n) s r (λ s. refl) (full-Var d n s r h k))
-open_full d exact free (TypeSig-F.MVar n) = subst (Full d) (sym (rolls-MVar n)) (λ s r h k. reach d 0x1e (λ s. wrap MVar (number_at s)) (MVar n) s r (λ s. refl) (full-MVar d n s r h k))
+open_full d exact free (TypeSig-F.Var n) = subst (Full d) (sym (rolls-Var n)) (λ s r h k. reach d 0x13 (λ s. wrap Var (compressed_at s)) (Var n) s r (λ s. refl) (full-Var d n s r h k))
+open_full d exact free (TypeSig-F.MVar n) = subst (Full d) (sym (rolls-MVar n)) (λ s r h k. reach d 0x1e (λ s. wrap MVar (compressed_at s)) (MVar n) s r (λ s. refl) (full-MVar d n s r h k))
 open_full d exact free (TypeSig-F.SzArray u) = subst (Full d) (sym (rolls-SzArray u)) (λ s r h k. reach d 0x1d (λ s. wrap SzArray (type_at d s)) (SzArray u) s r (λ s. refl) (full-SzArray d exact u s r h k))
 open_full d exact free (TypeSig-F.Array elem rank sizes lows) = subst (Full d) (sym (rolls-Array elem rank sizes lows)) (λ s r h k. reach d 0x14 (array_at (type_at d)) (Array elem rank sizes lows) s r (λ s. refl) (full-Array d exact elem rank sizes lows s r h k))
 open_full d exact free (TypeSig-F.Inst value of args) = subst (Full d) (sym (rolls-Inst value of args)) (λ s r h k. reach d 0x15 (inst_at (type_at d)) (Inst value of args) s r (λ s. refl) (full-Inst d exact value of args s r h k))

@@ -5,7 +5,7 @@ use Rattle.std.specs.List.{list_all}
 use Rattle.std.proofs.lemmas.Bool.{eqb-true, eq-eqb}
 use Rattle.std.proofs.lemmas.Bool.Decides.{nat_tests}
 use Rattle.std.proofs.lemmas.List.Folds.{list_all-map}
-use Rattle.cil_base.specs.Reading.{number_at}
+use Rattle.cil_base.specs.inner.Reading.{compressed_at}
 use Rattle.sig_tree.specs.Symbols.{Byte, Number, strip_symbols}
 use Rattle.sig_tree.specs.Spelling.{arity_symbols, generic_flag, flag, convention_byte, method_symbols, type_symbols}
 use Rattle.sig_tree.specs.Bounds.{is_kind, has_place, type_fits, method_fits, method_within, within_level}
@@ -121,7 +121,7 @@ record ArityFound (generic : Bool) (arity : Arity) (s r : List ℕ) : Type 0 whe
 
 arity_sound : (generic : Bool) (arity : Arity) (s r : List ℕ) → arity_at generic s ≡ Some (arity, r) → ArityFound generic arity s r
 arity_sound true arity s r h =
-    let w = wrapped Generic (number_at s) arity r h in
+    let w = wrapped Generic (compressed_at s) arity r h in
     let p = number_exact.sound w.value s r w.first in
     subst (λ a. ArityFound true a s r) w.same (record { is = refl; strips = p.0 })
 arity_sound false arity s r h =
@@ -130,7 +130,7 @@ arity_sound false arity s r h =
 
 arity_full : (arity : Arity) (s r : List ℕ) → strip_symbols (arity_symbols arity) s ≡ Some r → arity_at (is_generic arity) s ≡ Some (arity, r)
 arity_full not_generic s r h = ap (λ s. Some (not_generic, s)) (same_some s r h)
-arity_full (Generic n) s r h = wraps Generic (number_at s) n r (number_exact.full n s r h refl)
+arity_full (Generic n) s r h = wraps Generic (compressed_at s) n r (number_exact.full n s r h refl)
 
 placed_fits : (n : ℕ) (sentinel : Sentinel) → Placed 0 n sentinel → has_place true n sentinel ≡ true
 placed_fits n no_sentinel h = refl
@@ -157,8 +157,8 @@ convention_sound ty d exact b m s r is h =
     let small = (both (ltb b 0x80) (is_kind (b % 0x10)) is).0 in
     let below : b < 0x80 = grind (arith, nat_tests) in
     let kind = (both (ltb b 0x80) (is_kind (b % 0x10)) is).1 in
-    let a = came (arity_at (has_bit 0x10 b) s) (λ arity r. after (number_at r) (λ n r. after (ty r) (λ ret r. option_map (ends b arity ret) (params_at ty 0 n r)))) (m, r) h in
-    let n = came (number_at a.rest) (λ n r. after (ty r) (λ ret r. option_map (ends b a.value ret) (params_at ty 0 n r))) (m, r) a.then in
+    let a = came (arity_at (has_bit 0x10 b) s) (λ arity r. after (compressed_at r) (λ n r. after (ty r) (λ ret r. option_map (ends b arity ret) (params_at ty 0 n r)))) (m, r) h in
+    let n = came (compressed_at a.rest) (λ n r. after (ty r) (λ ret r. option_map (ends b a.value ret) (params_at ty 0 n r))) (m, r) a.then in
     let t = came (ty n.rest) (λ ret r. option_map (ends b a.value ret) (params_at ty 0 n.value r)) (m, r) n.then in
     let x = mapped (ends b a.value t.value) (params_at ty 0 n.value t.rest) (m, r) t.then in
     let arity = arity_sound (has_bit 0x10 b) a.value s a.rest a.first in
@@ -216,8 +216,8 @@ method_full ty d exact free m s r h k =
     ∙ ap (λ (explicit : Bool). let x : MethodSig = record { kind = m.kind; this = m.this; explicit = explicit; arity = m.arity; ret = m.ret; params = m.params; sentinel = m.sentinel } in x) c.explicit_bit in
     ap (method_at ty) p1.front
     ∙ ap (λ (v : Bool). cond {A = Option (MethodSig × List ℕ)} v (convention_at ty b p1.rest) None) is
-    ∙ goes (arity_at (has_bit 0x10 b) p1.rest) (λ arity r. after (number_at r) (λ n r. after (ty r) (λ ret r. option_map (ends b arity ret) (params_at ty 0 n r)))) m.arity p2.rest first
-    ∙ goes (number_at p2.rest) (λ n r. after (ty r) (λ ret r. option_map (ends b m.arity ret) (params_at ty 0 n r))) (length m.params) p3.rest count
+    ∙ goes (arity_at (has_bit 0x10 b) p1.rest) (λ arity r. after (compressed_at r) (λ n r. after (ty r) (λ ret r. option_map (ends b arity ret) (params_at ty 0 n r)))) m.arity p2.rest first
+    ∙ goes (compressed_at p2.rest) (λ n r. after (ty r) (λ ret r. option_map (ends b m.arity ret) (params_at ty 0 n r))) (length m.params) p3.rest count
     ∙ goes (ty p3.rest) (λ ret r. option_map (ends b m.arity ret) (params_at ty 0 (length m.params) r)) m.ret p4.rest ret
     ∙ ap (option_map (ends b m.arity m.ret)) ps
     ∙ ap (λ (x : MethodSig). Some (x, r)) made

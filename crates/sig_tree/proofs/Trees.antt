@@ -5,7 +5,7 @@ use Rattle.std.specs.List.{list_all}
 use Rattle.std.proofs.lemmas.Bool.{eqb-true, eq-eqb}
 use Rattle.std.proofs.lemmas.Bool.Decides.{nat_tests}
 use Rattle.std.proofs.lemmas.List.Folds.{list_all-map}
-use Rattle.cil_base.specs.Reading.{number_at}
+use Rattle.cil_base.specs.inner.Reading.{compressed_at}
 use Rattle.sig_tree.specs.Symbols.{Symbol, Byte, Number, strip_symbols}
 use Rattle.sig_tree.specs.Spelling.{arity_symbols, convention_byte, in_order, type_symbols, method_symbols, symbols, strip, with_sentinel, flag}
 use Rattle.sig_tree.specs.Bounds.{is_kind, has_place, type_fits, method_fits, all_fit, fits, Bounded, depth_limit}
@@ -99,7 +99,7 @@ property_row t params = type_symbols t ++ in_order (map type_symbols params)
 property_sound : (this : Bool) (s : List ℕ) (t : SigTree) → whole (property_at this s) ≡ Some t → OtherFound t ((0x08 + flag this 0x20) ∷ s)
 property_sound this s t h =
     let b = 0x08 + flag this 0x20 in
-    let a = came (number_at s) (λ n r. after (type_at depth_limit r) (λ t r. wrap (λ params. Property this t params) (many_at (type_at depth_limit) n r))) (t, []) (whole_sound (property_at this s) t h) in
+    let a = came (compressed_at s) (λ n r. after (type_at depth_limit r) (λ t r. wrap (λ params. Property this t params) (many_at (type_at depth_limit) n r))) (t, []) (whole_sound (property_at this s) t h) in
     let c = came (type_at depth_limit a.rest) (λ t r. wrap (λ params. Property this t params) (many_at (type_at depth_limit) a.value r)) (t, []) a.then in
     let w = wrapped (λ params. Property this c.value params) (many_at (type_at depth_limit) a.value c.rest) t [] c.then in
     let n = number_exact.sound a.value s a.rest a.first in
@@ -124,7 +124,7 @@ property_full this step t params s h k =
     let f = both (limited t) (all_fit params depth_limit) k in
     ap (tree_at false) b.front ∙ step b.rest
     ∙ whole_full (property_at this b.rest) (Property this t params)
-    (goes (number_at b.rest) (λ n r. after (type_at depth_limit r) (λ t r. wrap (λ params. Property this t params) (many_at (type_at depth_limit) n r))) (length params) p.rest (number_exact.full (length params) b.rest p.rest p.before refl)
+    (goes (compressed_at b.rest) (λ n r. after (type_at depth_limit r) (λ t r. wrap (λ params. Property this t params) (many_at (type_at depth_limit) n r))) (length params) p.rest (number_exact.full (length params) b.rest p.rest p.before refl)
     ∙ goes (type_at depth_limit p.rest) (λ t r. wrap (λ params. Property this t params) (many_at (type_at depth_limit) (length params) r)) t q.rest ((type_exact depth_limit).full t p.rest q.rest q.before f.0)
     ∙ wraps (λ params. Property this t params) (many_at (type_at depth_limit) (length params) q.rest) params [] (many_full (type_at depth_limit) type_symbols limited (type_exact depth_limit) params q.rest [] q.then (sym (all_fit-is params) ∙ f.1)))
 

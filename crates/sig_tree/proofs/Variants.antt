@@ -2,7 +2,7 @@
 use Rattle.std.proofs.Common.{◌≡◌, ℕ, suc, ◌+◌, ◌-◌, List, [], ◌∷◌, ◌++◌, Bool, true, false, cond, eqb, ℤ, Option, Some, None, length, map, refl, sym, ap, subst, ◌∙◌}
 use Rattle.std.proofs.lemmas.Bool.{eqb-true}
 use Rattle.cil_base.specs.Token.{Token}
-use Rattle.cil_base.specs.Reading.{number_at, signed_at}
+use Rattle.cil_base.specs.inner.Reading.{compressed_at, signed_at}
 use Rattle.sig_tree.specs.Symbols.{Symbol, Byte, Number, Signed, TypeToken, strip_symbols}
 use Rattle.sig_tree.specs.Spelling.{in_order, counted, method_symbols, type_symbols}
 use Rattle.sig_tree.specs.Bounds.{type_fits, method_fits}
@@ -75,17 +75,17 @@ sound-Class d = unary_sound d 0x12 Class type_token_at (λ t. TypeToken t ∷ []
 pub full-Class : (d : ℕ) (a : Token) (s r : List ℕ) → strip_symbols (type_symbols (Class a)) s ≡ Some r → type_fits (Class a) (suc d) ≡ true → Reached 0x12 (λ s. wrap Class (type_token_at s)) (Class a) s r
 full-Class d = unary_full d 0x12 Class type_token_at (λ t. TypeToken t ∷ []) (λ t. true) token_exact (λ a. row-of (TypeSig-F.Class a) (Class a) (rolls-Class a)) (λ a. fit-of (TypeSig-F.Class a) (Class a) d (rolls-Class a))
 
-pub sound-Var : (d : ℕ) (t : TypeSig) (s r : List ℕ) → wrap Var (number_at s) ≡ Some (t, r) → TypeFound d t (0x13 ∷ s) r
-sound-Var d = unary_sound d 0x13 Var number_at (λ n. Number n ∷ []) (λ n. true) number_exact (λ a. row-of (TypeSig-F.Var a) (Var a) (rolls-Var a)) (λ a. fit-of (TypeSig-F.Var a) (Var a) d (rolls-Var a))
+pub sound-Var : (d : ℕ) (t : TypeSig) (s r : List ℕ) → wrap Var (compressed_at s) ≡ Some (t, r) → TypeFound d t (0x13 ∷ s) r
+sound-Var d = unary_sound d 0x13 Var compressed_at (λ n. Number n ∷ []) (λ n. true) number_exact (λ a. row-of (TypeSig-F.Var a) (Var a) (rolls-Var a)) (λ a. fit-of (TypeSig-F.Var a) (Var a) d (rolls-Var a))
 
-pub full-Var : (d : ℕ) (a : ℕ) (s r : List ℕ) → strip_symbols (type_symbols (Var a)) s ≡ Some r → type_fits (Var a) (suc d) ≡ true → Reached 0x13 (λ s. wrap Var (number_at s)) (Var a) s r
-full-Var d = unary_full d 0x13 Var number_at (λ n. Number n ∷ []) (λ n. true) number_exact (λ a. row-of (TypeSig-F.Var a) (Var a) (rolls-Var a)) (λ a. fit-of (TypeSig-F.Var a) (Var a) d (rolls-Var a))
+pub full-Var : (d : ℕ) (a : ℕ) (s r : List ℕ) → strip_symbols (type_symbols (Var a)) s ≡ Some r → type_fits (Var a) (suc d) ≡ true → Reached 0x13 (λ s. wrap Var (compressed_at s)) (Var a) s r
+full-Var d = unary_full d 0x13 Var compressed_at (λ n. Number n ∷ []) (λ n. true) number_exact (λ a. row-of (TypeSig-F.Var a) (Var a) (rolls-Var a)) (λ a. fit-of (TypeSig-F.Var a) (Var a) d (rolls-Var a))
 
-pub sound-MVar : (d : ℕ) (t : TypeSig) (s r : List ℕ) → wrap MVar (number_at s) ≡ Some (t, r) → TypeFound d t (0x1e ∷ s) r
-sound-MVar d = unary_sound d 0x1e MVar number_at (λ n. Number n ∷ []) (λ n. true) number_exact (λ a. row-of (TypeSig-F.MVar a) (MVar a) (rolls-MVar a)) (λ a. fit-of (TypeSig-F.MVar a) (MVar a) d (rolls-MVar a))
+pub sound-MVar : (d : ℕ) (t : TypeSig) (s r : List ℕ) → wrap MVar (compressed_at s) ≡ Some (t, r) → TypeFound d t (0x1e ∷ s) r
+sound-MVar d = unary_sound d 0x1e MVar compressed_at (λ n. Number n ∷ []) (λ n. true) number_exact (λ a. row-of (TypeSig-F.MVar a) (MVar a) (rolls-MVar a)) (λ a. fit-of (TypeSig-F.MVar a) (MVar a) d (rolls-MVar a))
 
-pub full-MVar : (d : ℕ) (a : ℕ) (s r : List ℕ) → strip_symbols (type_symbols (MVar a)) s ≡ Some r → type_fits (MVar a) (suc d) ≡ true → Reached 0x1e (λ s. wrap MVar (number_at s)) (MVar a) s r
-full-MVar d = unary_full d 0x1e MVar number_at (λ n. Number n ∷ []) (λ n. true) number_exact (λ a. row-of (TypeSig-F.MVar a) (MVar a) (rolls-MVar a)) (λ a. fit-of (TypeSig-F.MVar a) (MVar a) d (rolls-MVar a))
+pub full-MVar : (d : ℕ) (a : ℕ) (s r : List ℕ) → strip_symbols (type_symbols (MVar a)) s ≡ Some r → type_fits (MVar a) (suc d) ≡ true → Reached 0x1e (λ s. wrap MVar (compressed_at s)) (MVar a) s r
+full-MVar d = unary_full d 0x1e MVar compressed_at (λ n. Number n ∷ []) (λ n. true) number_exact (λ a. row-of (TypeSig-F.MVar a) (MVar a) (rolls-MVar a)) (λ a. fit-of (TypeSig-F.MVar a) (MVar a) d (rolls-MVar a))
 
 pub sound-Ptr : (d : ℕ) → Exactly d → (t : TypeSig) (s r : List ℕ) → wrap Ptr (type_at d s) ≡ Some (t, r) → TypeFound d t (0x0f ∷ s) r
 sound-Ptr d exact = unary_sound d 0x0f Ptr (type_at d) type_symbols (λ t. type_fits t d) exact (λ u. row-of (TypeSig-F.Ptr u) (Ptr u) (rolls-Ptr u)) (λ u. fit-of (TypeSig-F.Ptr u) (Ptr u) d (rolls-Ptr u))
@@ -193,17 +193,17 @@ full-Inst d exact value of args s r h k =
 abbrev array_symbols : TypeSig → ℕ → List ℕ → List ℤ → List Symbol
 array_symbols elem rank sizes lows = type_symbols elem ++ (Number rank ∷ (counted (map Number sizes) ++ counted (map Signed lows)))
 
-sizes_exact : Exact (List ℕ) (counted_at number_at) (λ xs. counted (map Number xs)) (λ xs. true)
-sizes_exact = counted_exact number_at Number number_exact
+sizes_exact : Exact (List ℕ) (counted_at compressed_at) (λ xs. counted (map Number xs)) (λ xs. true)
+sizes_exact = counted_exact compressed_at Number number_exact
 
 lows_exact : Exact (List ℤ) (counted_at signed_at) (λ xs. counted (map Signed xs)) (λ xs. true)
 lows_exact = counted_exact signed_at Signed signed_exact
 
 pub sound-Array : (d : ℕ) → Exactly d → (t : TypeSig) (s r : List ℕ) → array_at (type_at d) s ≡ Some (t, r) → TypeFound d t (0x14 ∷ s) r
 sound-Array d exact t s r h =
-    let a = came (type_at d s) (λ elem r. after (number_at r) (λ rank r. after (counted_at number_at r) (λ sizes r. wrap (λ lows. Array elem rank sizes lows) (counted_at signed_at r)))) (t, r) h in
-    let b = came (number_at a.rest) (λ rank r. after (counted_at number_at r) (λ sizes r. wrap (λ lows. Array a.value rank sizes lows) (counted_at signed_at r))) (t, r) a.then in
-    let c = came (counted_at number_at b.rest) (λ sizes r. wrap (λ lows. Array a.value b.value sizes lows) (counted_at signed_at r)) (t, r) b.then in
+    let a = came (type_at d s) (λ elem r. after (compressed_at r) (λ rank r. after (counted_at compressed_at r) (λ sizes r. wrap (λ lows. Array elem rank sizes lows) (counted_at signed_at r)))) (t, r) h in
+    let b = came (compressed_at a.rest) (λ rank r. after (counted_at compressed_at r) (λ sizes r. wrap (λ lows. Array a.value rank sizes lows) (counted_at signed_at r))) (t, r) a.then in
+    let c = came (counted_at compressed_at b.rest) (λ sizes r. wrap (λ lows. Array a.value b.value sizes lows) (counted_at signed_at r)) (t, r) b.then in
     let w = wrapped (λ lows. Array a.value b.value c.value lows) (counted_at signed_at c.rest) t r c.then in
     let p = exact.sound a.value s a.rest a.first in
     let q = number_exact.sound b.value a.rest b.rest b.first in
@@ -227,8 +227,8 @@ full-Array d exact elem rank sizes lows s r h k =
     record {
       rest = b.rest;
       front = b.front;
-      found = goes (type_at d b.rest) (λ elem r. after (number_at r) (λ rank r. after (counted_at number_at r) (λ sizes r. wrap (λ lows. Array elem rank sizes lows) (counted_at signed_at r)))) elem p.rest (exact.full elem b.rest p.rest p.before fit)
-          ∙ goes (number_at p.rest) (λ rank r. after (counted_at number_at r) (λ sizes r. wrap (λ lows. Array elem rank sizes lows) (counted_at signed_at r))) rank q.rest (number_exact.full rank p.rest q.rest q.before refl)
-          ∙ goes (counted_at number_at q.rest) (λ sizes r. wrap (λ lows. Array elem rank sizes lows) (counted_at signed_at r)) sizes m.rest (sizes_exact.full sizes q.rest m.rest m.before refl)
+      found = goes (type_at d b.rest) (λ elem r. after (compressed_at r) (λ rank r. after (counted_at compressed_at r) (λ sizes r. wrap (λ lows. Array elem rank sizes lows) (counted_at signed_at r)))) elem p.rest (exact.full elem b.rest p.rest p.before fit)
+          ∙ goes (compressed_at p.rest) (λ rank r. after (counted_at compressed_at r) (λ sizes r. wrap (λ lows. Array elem rank sizes lows) (counted_at signed_at r))) rank q.rest (number_exact.full rank p.rest q.rest q.before refl)
+          ∙ goes (counted_at compressed_at q.rest) (λ sizes r. wrap (λ lows. Array elem rank sizes lows) (counted_at signed_at r)) sizes m.rest (sizes_exact.full sizes q.rest m.rest m.before refl)
           ∙ wraps (λ lows. Array elem rank sizes lows) (counted_at signed_at m.rest) lows r (lows_exact.full lows m.rest r m.then refl);
     }

@@ -2,7 +2,7 @@
 use Rattle.std.specs.Prelude.{◌≡◌, ℕ, zero, suc, ◌/◌, ◌%◌, ◌^◌, ◌==◌, List, [], ◌∷◌, ◌++◌, Option, Some, None, nat_lt, option_map, option_and_then, if◌then◌else◌}
 use Rattle.std.specs.Borrow.{Bor}
 use Rattle.cil_base.specs.Token.{Token}
-use Rattle.cil_base.specs.Reading.{number_at}
+use Rattle.cil_base.specs.inner.Reading.{compressed_at}
 
 -- then: what a value and the bytes after it give
 abbrev pub after : {A B : Type 0} → Option (A × List ℕ) → (A → List ℕ → Option B) → Option B
@@ -23,7 +23,7 @@ fronted {A} before found = wrap {A = List A} {B = List A} (λ xs. before ++ xs) 
 
 -- a count, and so many items
 abbrev pub counted_at : {A : Type 0} → (List ℕ → Option (A × List ℕ)) → List ℕ → Option (List A × List ℕ)
-counted_at item s = after (number_at s) (λ n r. many_at item n r)
+counted_at item s = after (compressed_at s) (λ n r. many_at item n r)
 
 -- the table of a tag
 abbrev pub table_of : ℕ → Option ℕ
@@ -33,7 +33,7 @@ abbrev pub token_of_number : ℕ → Option Token
 token_of_number n = if nat_lt (n / 4) (2 ^ 24) then option_map (λ table. record { table = table; rid = n / 4 }) (table_of (n % 4)) else None
 
 abbrev pub type_token_at : List ℕ → Option (Token × List ℕ)
-type_token_at s = after (number_at s) (λ n r. option_map (λ t. (t, r)) (token_of_number n))
+type_token_at s = after (compressed_at s) (λ n r. option_map (λ t. (t, r)) (token_of_number n))
 
 -- an answer of the parser, with the bytes that are left
 abbrev pub Finds : {A : Type 0} → Option (A × Bor (List ℕ)) → Option (A × List ℕ) → Type 0

@@ -1,7 +1,7 @@
 -- Types, methods and signatures by the bytes: the parser's own words. No public contract cites them.
 use Rattle.std.specs.Prelude.{◌≡◌, ℕ, zero, suc, ◌+◌, ◌/◌, ◌%◌, ◌==◌, List, [], ◌∷◌, ◌++◌, Option, Some, None, Bool, true, false, ◌&&◌, nat_lt, drop, length, option_map, option_and_then, if◌then◌else◌}
 use Rattle.std.specs.Borrow.{Bor}
-use Rattle.cil_base.specs.Reading.{number_at, signed_at}
+use Rattle.cil_base.specs.inner.Reading.{compressed_at, signed_at}
 use Rattle.sig_tree.specs.Bounds.{is_prim, is_kind, depth_limit}
 use Rattle.sig_tree.specs.Fronts.{after, wrap, many_at, counted_at, type_token_at}
 use Rattle.sig_tree.specs.declared.tree.Arity.{Arity}
@@ -34,7 +34,7 @@ abbrev pub fronted_params : List TypeSig → Option (List TypeSig × Sentinel ×
 fronted_params before found = option_map {T = List TypeSig × Sentinel × List ℕ} {U = List TypeSig × Sentinel × List ℕ} (λ x. (before ++ x.0, x.1, x.2)) found
 
 abbrev pub arity_at : Bool → List ℕ → Option (Arity × List ℕ)
-arity_at generic s = if generic then wrap Generic (number_at s) else Some (not_generic, s)
+arity_at generic s = if generic then wrap Generic (compressed_at s) else Some (not_generic, s)
 
 -- a bit of a convention
 abbrev pub has_bit : ℕ → ℕ → Bool
@@ -56,7 +56,7 @@ method_of b arity ret rest = record {
 
 -- a method's signature after its convention; a sentinel after the last parameter is not read here
 abbrev pub convention_at : (List ℕ → Option (TypeSig × List ℕ)) → ℕ → List ℕ → Option (MethodSig × List ℕ)
-convention_at ty b s = after (arity_at (has_bit 0x10 b) s) (λ arity r. after (number_at r) (λ n r. after (ty r) (λ ret r.
+convention_at ty b s = after (arity_at (has_bit 0x10 b) s) (λ arity r. after (compressed_at r) (λ n r. after (ty r) (λ ret r.
     option_map (λ x. (method_of b arity ret x, x.2)) (params_at ty 0 n r))))
 
 abbrev pub method_at : (List ℕ → Option (TypeSig × List ℕ)) → List ℕ → Option (MethodSig × List ℕ)
@@ -64,7 +64,7 @@ method_at ty [] = None
 method_at ty (b ∷ s) = if is_convention b then convention_at ty b s else None
 
 abbrev pub array_at : (List ℕ → Option (TypeSig × List ℕ)) → List ℕ → Option (TypeSig × List ℕ)
-array_at ty s = after (ty s) (λ elem r. after (number_at r) (λ rank r. after (counted_at number_at r) (λ sizes r.
+array_at ty s = after (ty s) (λ elem r. after (compressed_at r) (λ rank r. after (counted_at compressed_at r) (λ sizes r.
     wrap (λ lows. Array elem rank sizes lows) (counted_at signed_at r))))
 
 -- whether the byte is VALUETYPE, or CLASS
@@ -88,8 +88,8 @@ wrapped_at ty b s =
 unfoldable pub level_at : (List ℕ → Option (TypeSig × List ℕ)) → ℕ → List ℕ → Option (TypeSig × List ℕ)
 level_at ty b s =
     if is_prim b then Some (Prim b, s) else (if b == 0x11 then wrap Value (type_token_at s) else
-    (if b == 0x12 then wrap Class (type_token_at s) else (if b == 0x13 then wrap Var (number_at s) else
-    (if b == 0x1e then wrap MVar (number_at s) else (if b == 0x14 then array_at ty s else
+    (if b == 0x12 then wrap Class (type_token_at s) else (if b == 0x13 then wrap Var (compressed_at s) else
+    (if b == 0x1e then wrap MVar (compressed_at s) else (if b == 0x14 then array_at ty s else
     (if b == 0x15 then inst_at ty s else (if b == 0x1b then wrap FnPtr (method_at ty s) else
     (if b == 0x1f then mod_at ty true s else (if b == 0x20 then mod_at ty false s else wrapped_at ty b s)))))))))
 
@@ -113,7 +113,7 @@ ends_method (m, []) = Some (Method m)
 ends_method (m, b ∷ s) = if b == 0x41 && length s == 0 then last_sentinel m m.sentinel else None
 
 abbrev pub property_at : Bool → List ℕ → Option (SigTree × List ℕ)
-property_at this s = after (number_at s) (λ n r. after (type_at depth_limit r) (λ t r. wrap (λ params. Property this t params) (many_at (type_at depth_limit) n r)))
+property_at this s = after (compressed_at s) (λ n r. after (type_at depth_limit r) (λ t r. wrap (λ params. Property this t params) (many_at (type_at depth_limit) n r)))
 
 -- the signature of the whole blob after its first byte, if it is no type alone
 unfoldable pub sort_at : ℕ → List ℕ → Option SigTree

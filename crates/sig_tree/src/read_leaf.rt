@@ -1,5 +1,5 @@
 ghost use Rattle.std.specs.Prelude.{◌≡◌, ◌∷◌, [], true, false, drop, MatchOption};
-ghost use Rattle.cil_base.specs.Reading.{number_at};
+ghost use Rattle.cil_base.specs.inner.Reading.{compressed_at};
 ghost use Rattle.sig_tree.specs.declared.tree.TypeSig.TheVariants.{Value, Class, Var, MVar};
 ghost use Rattle.sig_tree.specs.Fronts.{Finds, wrap, type_token_at};
 ghost use Rattle.sig_tree.specs.Parsing.{kind_at, arity_at, begins};
@@ -39,7 +39,7 @@ pub(crate) fn read_class(bytes: &[u8]) -> Option<(TypeSig, &[u8])>
 
 /// A VAR after its first byte.
 pub(crate) fn read_var(bytes: &[u8]) -> Option<(TypeSig, &[u8])>
-    ensures { Finds result (wrap Var (number_at bytes.now)) }
+    ensures { Finds result (wrap Var (compressed_at bytes.now)) }
 {
     let Some((number, rest)) = read_number(bytes) else {
         return None;
@@ -49,7 +49,7 @@ pub(crate) fn read_var(bytes: &[u8]) -> Option<(TypeSig, &[u8])>
 
 /// An MVAR after its first byte.
 pub(crate) fn read_mvar(bytes: &[u8]) -> Option<(TypeSig, &[u8])>
-    ensures { Finds result (wrap MVar (number_at bytes.now)) }
+    ensures { Finds result (wrap MVar (compressed_at bytes.now)) }
 {
     let Some((number, rest)) = read_number(bytes) else {
         return None;

@@ -1,5 +1,5 @@
 ghost use Rattle.std.specs.Prelude.{◌≡◌, IfOk};
-ghost use Rattle.cil_base.specs.Reading.{number_at, signed_at};
+ghost use Rattle.cil_base.specs.inner.Reading.{compressed_at, signed_at};
 ghost use Rattle.sig_tree.specs.Fronts.{Finds, counted_at, many_at, type_token_at, fronted};
 
 use cil_base::{List, NoMemory, Token, read_compressed, read_signed};
@@ -8,7 +8,7 @@ use std::alloc::Global;
 /// The number at the front of the bytes, and the bytes after it.
 #[tactic(auto, using(crate::proofs::Fuel::number_found, crate::proofs::Fuel::number_missing))]
 pub(crate) fn read_number(bytes: &[u8]) -> Option<(u32, &[u8])>
-    ensures { Finds result (number_at bytes.now) }
+    ensures { Finds result (compressed_at bytes.now) }
 {
     match read_compressed(bytes) {
         Some((number, len)) => Some((number, &bytes[len..])),
@@ -52,7 +52,7 @@ pub(crate) fn read_numbers(
     alloc: Global,
     bytes: &[u8],
 ) -> Result<Option<(List<u32>, &[u8])>, NoMemory>
-    ensures { IfOk result (λ found. Finds found (counted_at number_at bytes.now)) }
+    ensures { IfOk result (λ found. Finds found (counted_at compressed_at bytes.now)) }
 {
     let Some((count, bytes)) = read_number(bytes) else {
         return Ok(None);

@@ -1,7 +1,7 @@
 use Rattle.std.proofs.Common.{◌≡◌, ◌-◌}
-use Rattle.cil_base.specs.Reading.{number_at}
+use Rattle.cil_base.specs.inner.Reading.{compressed_at}
 use Rattle.sig_tree.specs.Fronts.{many_at, fronted}
 use Rattle.sig_tree.proofs.read_number.read_numbers.Given as goal
 
 abbrev pub invariant-loop-index : goal.invariant-loop-index
-invariant-loop-index l = fronted l.numbers (many_at number_at (l.count - l.index) l.rest) ≡ many_at number_at l.count l.initial.rest
+invariant-loop-index l = fronted l.numbers (many_at compressed_at (l.count - l.index) l.rest) ≡ many_at compressed_at l.count l.initial.rest
