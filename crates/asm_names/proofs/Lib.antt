@@ -1,0 +1,2 @@
+mod GuidLemmas
+mod StandardFacts
