@@ -16,11 +16,11 @@ abbrev pub culture_text : List ℕ → List ℕ
 culture_text [] = codes "neutral"
 culture_text (c ∷ cs) = c ∷ cs
 
-abbrev pub token_text : List ℕ → List ℕ
-token_text [] = codes "null"
-token_text (b ∷ bs) = hex_text (b ∷ bs)
+abbrev pub key_token_text : List ℕ → List ℕ
+key_token_text [] = codes "null"
+key_token_text (b ∷ bs) = hex_text (b ∷ bs)
 
 abbrev pub assembly_text : List ℕ → List ℕ → List ℕ → List ℕ → List ℕ
 assembly_text name version culture token =
     name ++ codes ", Version=" ++ version_text version ++ codes ", Culture=" ++ culture_text culture
-    ++ codes ", PublicKeyToken=" ++ token_text token
+    ++ codes ", PublicKeyToken=" ++ key_token_text token

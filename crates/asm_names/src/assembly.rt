@@ -1,5 +1,5 @@
 ghost use Rattle.std.specs.Prelude.{◌≡◌, ◌++◌, IfOk, OnOk};
-ghost use Rattle.asm_names.specs.Assembly.{assembly_text, culture_text, token_text, version_text};
+ghost use Rattle.asm_names.specs.Assembly.{assembly_text, culture_text, key_token_text, version_text};
 
 use crate::hex::add_hex;
 use cil_base::{Bytes, List, NoMemory};
@@ -45,7 +45,7 @@ fn add_culture(text: &mut Bytes, culture: &[u8]) -> Result<(), NoMemory>
 }
 
 fn add_token(text: &mut Bytes, token: &[u8]) -> Result<(), NoMemory>
-    ensures { OnOk result (text.new ≡ text.old ++ token_text token.now) }
+    ensures { OnOk result (text.new ≡ text.old ++ key_token_text token.now) }
 {
     match token {
         [] => text.extend(b"null"),
