@@ -14,6 +14,3 @@ mod words;
 pub use node_read::OpenRefusal;
 pub use run::inspect;
 pub use status::{FileCause, Status, status_line};
-
-#[cfg(test)]
-mod tests;

@@ -7,7 +7,7 @@ use pe_image::PeRefusal;
 use std::alloc::Global;
 
 /// How a run of the program ended.
-#[derive(Debug, PartialEq, Eq, Drop)]
+#[derive(Drop)]
 pub enum Status {
     /// All was done.
     Ok,
@@ -24,7 +24,7 @@ pub enum Status {
 }
 
 /// Why a file could not be taken.
-#[derive(Debug, PartialEq, Eq, Drop)]
+#[derive(Drop)]
 pub enum FileCause {
     /// The folder has no file of this name.
     Missing,

@@ -6,7 +6,7 @@ use cil_base::{Bytes, List, NoMemory};
 use std::alloc::Global;
 
 /// A file of a folder in memory.
-#[derive(Debug, PartialEq, Eq, Drop)]
+#[derive(Drop)]
 pub struct NamedFile {
     pub name: Bytes,
     pub bytes: Bytes,

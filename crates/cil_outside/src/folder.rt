@@ -7,7 +7,7 @@ use cil_base::{Bytes, NoMemory};
 use std::alloc::Global;
 
 /// What a folder answers when a file is read.
-#[derive(Debug, PartialEq, Eq, Drop)]
+#[derive(Drop)]
 pub enum Got {
     /// The bytes of the file.
     Found(Bytes),

@@ -9,7 +9,7 @@ use std::alloc::Global;
 
 /// An outlet in memory, which tells its text. Its calls are numbered from 0, and those of given numbers fail: a failing
 /// `text` takes the first half of its bytes, rounded down.
-#[derive(Debug, Drop)]
+#[derive(Drop)]
 pub struct MemoryOutlet {
     text: Bytes,
     failing: List<u64>,

@@ -6,7 +6,7 @@ use cil_base::NoMemory;
 use std::alloc::Global;
 
 /// What an outlet answers when it is given bytes.
-#[derive(Clone, Copy, Debug, PartialEq, Eq)]
+#[derive(Clone, Copy)]
 pub enum Sent {
     /// All bytes were taken.
     Done,

@@ -7,7 +7,7 @@ use cil_base::{List, NoMemory};
 use std::alloc::Global;
 
 /// A folder in memory of which no read fails: it tells its files, and its count of faults is always 0.
-#[derive(Debug, Drop)]
+#[derive(Drop)]
 pub struct SoundFolder {
     files: List<NamedFile>,
 }

@@ -6,7 +6,7 @@ use cil_base::{Bytes, List, NoMemory};
 use std::alloc::Global;
 
 /// An outlet in memory of which no write fails: it tells its text, and its count of faults is always 0.
-#[derive(Debug, Drop)]
+#[derive(Drop)]
 pub struct SoundOutlet {
     text: Bytes,
 }

@@ -9,7 +9,7 @@ use cil_base::{List, NoMemory};
 use std::alloc::Global;
 
 /// A folder in memory, which tells its files. Its calls are numbered from 0, and those of given numbers fail.
-#[derive(Debug, Drop)]
+#[derive(Drop)]
 pub struct TableFolder {
     files: List<NamedFile>,
     failing: List<u64>,
