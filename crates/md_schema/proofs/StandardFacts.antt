@@ -1,10 +1,16 @@
 -- Values of the standard, so that a wrong number or place in a definition does not check.
 use Rattle.std.proofs.Common.{◌≡◌, [], ◌∷◌, Some, None, map, refl}
 use Rattle.std.specs.List.{filter}
-use Rattle.md_schema.specs.CodedKind.{table_of}
-use Rattle.md_schema.specs.Entry.{columns_of, owner_of, start_column_of}
+use Rattle.md_schema.specs.CodedKind.{tag_table_of}
+use lib.Chars.{codes}
+use Rattle.std.specs.Option.{option_map}
+use Rattle.md_schema.specs.Entry.{column_of, columns_of, owner_of, start_column_of}
+use Rattle.md_schema.specs.Link.{link_kind_of}
+use Rattle.md_schema.specs.Runs.{run_between}
 use Rattle.md_schema.specs.Schema.{tables}
-use Rattle.md_schema.specs.declared.coded_kind.CodedKind.TheVariants.{TypeDefOrRef, HasCustomAttribute, CustomAttributeType}
+use Rattle.md_schema.specs.declared.coded_kind.CodedKind.TheVariants.{TypeDefOrRef, HasCustomAttribute, HasSemantics, CustomAttributeType}
+use Rattle.md_schema.specs.declared.column.ColumnKind.TheVariants.{Coded}
+use Rattle.md_schema.specs.declared.link.Link.TheVariants.{MethodSemantics}
 use Rattle.md_schema.specs.declared.holder.Holder.{Holder}
 use Rattle.md_schema.specs.declared.holder.Holder.TheVariants.{Root}
 use Rattle.std.proofs.Common.{Bool, true, false, length}
@@ -13,16 +19,16 @@ abbrev pub is_root_holder : Holder → Bool
 is_root_holder Root = true
 is_root_holder _ = false
 
-pub tag_2-is-type_spec : table_of TypeDefOrRef 2 ≡ Some 0x1b
+pub tag_2-is-type_spec : tag_table_of TypeDefOrRef 2 ≡ Some 0x1b
 tag_2-is-type_spec = refl
 
-pub tag_21-is-method_spec : table_of HasCustomAttribute 21 ≡ Some 0x2b
+pub tag_21-is-method_spec : tag_table_of HasCustomAttribute 21 ≡ Some 0x2b
 tag_21-is-method_spec = refl
 
-pub tag_22-is-unused : table_of HasCustomAttribute 22 ≡ None
+pub tag_22-is-unused : tag_table_of HasCustomAttribute 22 ≡ None
 tag_22-is-unused = refl
 
-pub tag_1-is-unused : table_of CustomAttributeType 1 ≡ None
+pub tag_1-is-unused : tag_table_of CustomAttributeType 1 ≡ None
 tag_1-is-unused = refl
 
 pub thirty_eight-tables : length tables ≡ 38
@@ -41,6 +47,24 @@ type_def-owns-methods = refl
 pub method_def-owns-params : start_column_of 0x06 0x08 ≡ Some 5
 unfolding tables
 method_def-owns-params = refl
+
+pub method_def-owns-param : owner_of 0x08 ≡ Some 0x06
+unfolding tables
+method_def-owns-param = refl
+
+pub method_semantics-by-association : link_kind_of MethodSemantics ≡ Some (Coded HasSemantics)
+unfolding tables
+method_semantics-by-association = refl
+
+pub assembly-hash_alg_id : option_map (λ column. column.name) (column_of 0x20 0) ≡ Some (codes "HashAlgId")
+unfolding tables
+assembly-hash_alg_id = refl
+
+pub equal-ends_past_the_rows : run_between 6 9 9 ≡ Some (9, 9)
+equal-ends_past_the_rows = refl
+
+pub no-falling_run : run_between 6 5 3 ≡ None
+no-falling_run = refl
 
 pub event_map-owns-events : owner_of 0x14 ≡ Some 0x12
 unfolding tables

@@ -1,9 +1,17 @@
 -- The tables that each kind of coded index may name, by tag: ECMA-335 II.24.2.6.
 use Rattle.std.specs.Prelude.{ℕ, List, [], ◌∷◌, Option, Some, None, slice_get}
 use Rattle.std.specs.Option.{unwrap_or}
-use Rattle.md_schema.specs.Tables.{module_, type_ref, type_def, field, method_def, param, interface_impl, member_ref, decl_security, stand_alone_sig, event, property, module_ref, type_spec, assembly, assembly_ref, file, exported_type, manifest_resource, generic_param, method_spec, generic_param_constraint}
+use Rattle.md_schema.specs.Tables.{module_, type_ref, type_def, field, method_def, param, interface_impl, member_ref}
+use Rattle.md_schema.specs.Tables.{decl_security, stand_alone_sig, event, property, module_ref, type_spec, assembly}
+use Rattle.md_schema.specs.Tables.{assembly_ref, file, exported_type, manifest_resource, generic_param, method_spec}
+use Rattle.md_schema.specs.Tables.{generic_param_constraint}
 use Rattle.md_schema.specs.declared.coded_kind.CodedKind.{CodedKind}
-use Rattle.md_schema.specs.declared.coded_kind.CodedKind.TheVariants.{TypeDefOrRef, HasConstant, HasCustomAttribute, HasFieldMarshal, HasDeclSecurity, MemberRefParent, HasSemantics, MethodDefOrRef, MemberForwarded, Implementation, CustomAttributeType, ResolutionScope, TypeOrMethodDef}
+use Rattle.md_schema.specs.declared.coded_kind.CodedKind.TheVariants.{TypeDefOrRef, HasConstant, HasCustomAttribute}
+use Rattle.md_schema.specs.declared.coded_kind.CodedKind.TheVariants.{HasFieldMarshal, HasDeclSecurity}
+use Rattle.md_schema.specs.declared.coded_kind.CodedKind.TheVariants.{MemberRefParent, HasSemantics, MethodDefOrRef}
+use Rattle.md_schema.specs.declared.coded_kind.CodedKind.TheVariants.{MemberForwarded, Implementation}
+use Rattle.md_schema.specs.declared.coded_kind.CodedKind.TheVariants.{CustomAttributeType, ResolutionScope}
+use Rattle.md_schema.specs.declared.coded_kind.CodedKind.TheVariants.{TypeOrMethodDef}
 
 -- how many low bits are the tag
 abbrev pub tag_bits_of : CodedKind → ℕ
@@ -44,5 +52,5 @@ tables_of ResolutionScope = Some module_ ∷ Some module_ref ∷ Some assembly_r
 tables_of TypeOrMethodDef = Some type_def ∷ Some method_def ∷ []
 
 -- the table that a tag names
-abbrev pub table_of : CodedKind → ℕ → Option ℕ
-table_of kind tag = unwrap_or (slice_get (tables_of kind) tag) None
+abbrev pub tag_table_of : CodedKind → ℕ → Option ℕ
+tag_table_of kind tag = unwrap_or (slice_get (tables_of kind) tag) None

@@ -11,20 +11,20 @@ use Rattle.md_schema.specs.declared.holder.Holder.TheVariants.{Owner}
 use Rattle.md_schema.specs.declared.schema.Table.{Table}
 
 -- the table of this number
-abbrev pub entry_of : ℕ → Option TableOf
-entry_of number = find (λ table. table.number == number) tables
+abbrev pub table_entry_of : ℕ → Option TableOf
+table_entry_of number = find (λ table. table.number == number) tables
 
-abbrev pub name_of : ℕ → Option (List ℕ)
-name_of number = option_map (λ table. table.name) (entry_of number)
+abbrev pub table_name_of : ℕ → Option (List ℕ)
+table_name_of number = option_map (λ table. table.name) (table_entry_of number)
 
 abbrev pub columns_of : ℕ → Option (List ColumnOf)
-columns_of number = option_map (λ table. table.columns) (entry_of number)
+columns_of number = option_map (λ table. table.columns) (table_entry_of number)
 
 abbrev pub column_of : ℕ → ℕ → Option ColumnOf
 column_of number column = option_and_then (λ columns. slice_get columns column) (columns_of number)
 
 abbrev pub holder_of : ℕ → Option Holder
-holder_of number = option_map (λ table. table.holder) (entry_of number)
+holder_of number = option_map (λ table. table.holder) (table_entry_of number)
 
 -- the owner that a table has if its rows stand in runs
 abbrev pub owner_in : Holder → Option ℕ
@@ -51,7 +51,7 @@ seen_table number table =
     record { number = number; name = table.name.now; holder = table.holder; columns = seen_columns table.columns.now }
 
 -- the tables that stand at places from n on, with their numbers
-abbrev pub numbered : ℕ → List (Option Table) → List TableOf
-numbered n [] = []
-numbered n (None ∷ xs) = numbered (suc n) xs
-numbered n (Some x ∷ xs) = seen_table n x ∷ numbered (suc n) xs
+abbrev pub numbered_tables : ℕ → List (Option Table) → List TableOf
+numbered_tables n [] = []
+numbered_tables n (None ∷ xs) = numbered_tables (suc n) xs
+numbered_tables n (Some x ∷ xs) = seen_table n x ∷ numbered_tables (suc n) xs

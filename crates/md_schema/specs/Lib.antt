@@ -1,9 +1,14 @@
+pub mod Cell
 pub mod Coded
 pub mod CodedKind
 pub mod Column
 pub mod Entry
+pub mod Header
+pub mod Layout
 pub mod Link
+pub mod LinkedRows
 pub mod Reference
+pub mod Runs
 pub mod Schema
 pub mod Spelling
 pub mod Tables

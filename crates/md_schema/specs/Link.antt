@@ -5,7 +5,11 @@ use Rattle.std.specs.Option.{option_map}
 use Rattle.md_schema.specs.Entry.{column_of}
 use Rattle.md_schema.specs.declared.column.ColumnKind.{ColumnKind}
 use Rattle.md_schema.specs.declared.link.Link.{Link}
-use Rattle.md_schema.specs.declared.link.Link.TheVariants.{InterfaceImpl, Constant, CustomAttribute, FieldMarshal, DeclSecurity, ClassLayout, FieldLayout, EventMap, PropertyMap, MethodSemantics, MethodImpl, ImplMap, FieldRVA, NestedClass, Nested, GenericParam, GenericParamConstraint}
+use Rattle.md_schema.specs.declared.link.Link.TheVariants.{InterfaceImpl, Constant, CustomAttribute, FieldMarshal}
+use Rattle.md_schema.specs.declared.link.Link.TheVariants.{DeclSecurity, ClassLayout, FieldLayout, EventMap}
+use Rattle.md_schema.specs.declared.link.Link.TheVariants.{PropertyMap, MethodSemantics, MethodImpl, ImplMap}
+use Rattle.md_schema.specs.declared.link.Link.TheVariants.{FieldRVA, NestedClass, Nested, GenericParam}
+use Rattle.md_schema.specs.declared.link.Link.TheVariants.{GenericParamConstraint}
 
 abbrev pub all_links : List Link
 all_links =

@@ -1,8 +1,9 @@
 -- Columns that name rows, by an index into one table or by a coded index: ECMA-335 II.22 and II.24.2.6.
-use Rattle.std.specs.Prelude.{ℕ, ◌≡◌, ◌<◌, ◌≤◌, ◌^◌, ◌/◌, ◌%◌, ◌==◌, nat_lt, ◌&&◌, Bool, true, false, Option, Some, None}
+use Rattle.std.specs.Prelude.{ℕ, ◌≡◌, ◌<◌, ◌≤◌, ◌^◌, ◌/◌, ◌%◌, ◌==◌, nat_lt, if◌then◌else◌, ◌&&◌, ◌↔◌}
+use Rattle.std.specs.Prelude.{Bool, false, Option, Some, None}
 use Rattle.std.specs.List.{list_any}
-use Rattle.md_schema.specs.CodedKind.{table_of, tables_of, tag_bits_of}
-use Rattle.md_schema.specs.Coded.{Decodes}
+use Rattle.md_schema.specs.CodedKind.{tag_table_of, tables_of, tag_bits_of}
+use Rattle.md_schema.specs.Coded.{Decodes, coded_of}
 use Rattle.md_schema.specs.declared.column.ColumnKind.{ColumnKind}
 use Rattle.md_schema.specs.declared.column.ColumnKind.TheVariants.{Index, Coded as Choice}
 use Rattle.md_schema.specs.declared.coded.Coded.{Coded}
@@ -10,13 +11,13 @@ use Rattle.md_schema.specs.declared.coded.Coded.TheVariants.{Null, Is, BadTag, B
 use Rattle.cil_base.specs.Token.{Token}
 
 -- whether this is the table of a tag
-abbrev pub is_table : ℕ → Option ℕ → Bool
-is_table number None = false
-is_table number (Some other) = other == number
+abbrev pub is_tag_table : ℕ → Option ℕ → Bool
+is_tag_table number None = false
+is_tag_table number (Some other) = other == number
 
 abbrev pub may_name_of : ColumnKind → ℕ → Bool
 may_name_of (Index other) number = other == number
-may_name_of (Choice kind) number = list_any (is_table number) (tables_of kind)
+may_name_of (Choice kind) number = list_any (is_tag_table number) (tables_of kind)
 may_name_of _ number = false
 
 -- what a row number of the table says
@@ -33,16 +34,22 @@ Refers (Index number) value coded = DecodesIndex number value coded
 Refers (Choice kind) value coded = Decodes kind value coded
 Refers _ value coded = ⊥
 
--- whether a column names rows
-abbrev pub is_reference : ColumnKind → Bool
-is_reference (Index number) = true
-is_reference (Choice kind) = true
-is_reference _ = false
+-- the same as a function
+abbrev pub index_of : ℕ → ℕ → Coded
+index_of number value =
+    if value == 0 then Null
+    else (if nat_lt value (2 ^ 24) then Is (record { table = number; rid = value }) else Beyond value)
 
--- the answer, or none where the column names no rows
-abbrev pub MatchesReference : ColumnKind → ℕ → Option Coded → Type 0
-MatchesReference kind value (Some coded) = Refers kind value coded
-MatchesReference kind value None = is_reference kind ≡ false
+-- none where the column names no rows
+abbrev pub reference_of : ColumnKind → ℕ → Option Coded
+reference_of (Index number) value = Some (index_of number value)
+reference_of (Choice kind) value = Some (coded_of kind value)
+reference_of _ value = None
+
+-- the function gives what the relation says, and nothing else
+abbrev pub ReferenceRefers : Type 0
+ReferenceRefers =
+    (kind : ColumnKind) (value : ℕ) (coded : Coded) → (reference_of kind value ≡ Some coded) ↔ Refers kind value coded
 
 -- whether a row part is that of a row: not 0, and below 2^24
 abbrev pub is_rid : ℕ → Bool
@@ -52,7 +59,7 @@ is_rid rid = nat_lt 0 rid && nat_lt rid (2 ^ 24)
 abbrev pub is_named : ColumnKind → ℕ → Token → Bool
 is_named (Index number) value token = (number == token.table) && (value == token.rid) && is_rid value
 is_named (Choice kind) value token =
-    is_table token.table (table_of kind (value % 2 ^ tag_bits_of kind))
+    is_tag_table token.table (tag_table_of kind (value % 2 ^ tag_bits_of kind))
     && (value / 2 ^ tag_bits_of kind == token.rid) && is_rid (value / 2 ^ tag_bits_of kind)
 is_named _ value token = false
 

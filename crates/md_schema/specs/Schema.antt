@@ -2,13 +2,24 @@
 use Rattle.std.specs.Prelude.{ℕ, List, [], ◌∷◌}
 use lib.Chars.{codes}
 use Rattle.md_schema.specs.Column.{ColumnOf}
-use Rattle.md_schema.specs.Tables.{assembly_ref, event, event_map, field, generic_param, method_def, module_ref, param, property, property_map, type_def}
+use Rattle.md_schema.specs.Tables.{assembly_ref, event, event_map, field, generic_param, method_def, module_ref}
+use Rattle.md_schema.specs.Tables.{param, property, property_map, type_def}
 use Rattle.md_schema.specs.declared.column.ColumnKind.{ColumnKind}
-use Rattle.md_schema.specs.declared.column.ColumnKind.TheVariants.{U8Pad, U16, U32, Text, Guid, Blob, Sig, Index, Coded, Start, Rva, Offset}
-use Rattle.md_schema.specs.declared.coded_kind.CodedKind.TheVariants.{TypeDefOrRef, HasConstant, HasCustomAttribute, HasFieldMarshal, HasDeclSecurity, MemberRefParent, HasSemantics, MethodDefOrRef, MemberForwarded, Implementation, CustomAttributeType, ResolutionScope, TypeOrMethodDef}
+use Rattle.md_schema.specs.declared.column.ColumnKind.TheVariants.{U8Pad, U16, U32, Text, Guid, Blob, Sig, Index}
+use Rattle.md_schema.specs.declared.column.ColumnKind.TheVariants.{Coded, Start, Rva, Offset}
+use Rattle.md_schema.specs.declared.coded_kind.CodedKind.TheVariants.{TypeDefOrRef, HasConstant, HasCustomAttribute}
+use Rattle.md_schema.specs.declared.coded_kind.CodedKind.TheVariants.{HasFieldMarshal, HasDeclSecurity}
+use Rattle.md_schema.specs.declared.coded_kind.CodedKind.TheVariants.{MemberRefParent, HasSemantics, MethodDefOrRef}
+use Rattle.md_schema.specs.declared.coded_kind.CodedKind.TheVariants.{MemberForwarded, Implementation}
+use Rattle.md_schema.specs.declared.coded_kind.CodedKind.TheVariants.{CustomAttributeType, ResolutionScope}
+use Rattle.md_schema.specs.declared.coded_kind.CodedKind.TheVariants.{TypeOrMethodDef}
 use Rattle.md_schema.specs.declared.holder.Holder.{Holder}
 use Rattle.md_schema.specs.declared.holder.Holder.TheVariants.{Root, Owner, Link as Listed}
-use Rattle.md_schema.specs.declared.link.Link.TheVariants.{InterfaceImpl, Constant, CustomAttribute, FieldMarshal, DeclSecurity, ClassLayout, FieldLayout, EventMap, PropertyMap, MethodSemantics, MethodImpl, ImplMap, FieldRVA, NestedClass, GenericParam, GenericParamConstraint}
+use Rattle.md_schema.specs.declared.link.Link.TheVariants.{InterfaceImpl, Constant, CustomAttribute, FieldMarshal}
+use Rattle.md_schema.specs.declared.link.Link.TheVariants.{DeclSecurity, ClassLayout, FieldLayout, EventMap}
+use Rattle.md_schema.specs.declared.link.Link.TheVariants.{PropertyMap, MethodSemantics, MethodImpl, ImplMap}
+use Rattle.md_schema.specs.declared.link.Link.TheVariants.{FieldRVA, NestedClass, GenericParam}
+use Rattle.md_schema.specs.declared.link.Link.TheVariants.{GenericParamConstraint}
 
 -- a table: its number, its name, where its rows are listed, and its columns from number 0
 pub record TableOf : Type 0 where

@@ -1,5 +1,5 @@
 -- Laws of the numbers that name rows: ECMA-335 II.24.2.6.
-use Rattle.std.specs.Prelude.{ℕ, ◌≡◌, ◌<◌, ◌^◌, Some, true}
+use Rattle.std.specs.Prelude.{ℕ, ◌≡◌, ◌<◌, ◌^◌, Option, Some, true}
 use Rattle.md_schema.specs.Coded.{Decodes, Encodes}
 use Rattle.md_schema.specs.Reference.{Refers, may_name_of}
 use Rattle.md_schema.specs.declared.coded_kind.CodedKind.{CodedKind}
@@ -18,6 +18,12 @@ abbrev pub WrittenIsRead : Type 0
 WrittenIsRead =
     (kind : CodedKind) (token : Token) (value : ℕ) (coded : Coded) → IsRow token
     → Encodes kind token (Some value) → Decodes kind value coded → coded ≡ Is token
+
+-- a token is written in one way, or in none
+abbrev pub WrittenOnce : Type 0
+WrittenOnce =
+    (kind : CodedKind) (token : Token) (answer other : Option ℕ)
+    → Encodes kind token answer → Encodes kind token other → answer ≡ other
 
 -- one number, and no other, is read in the column as the token
 pub record SpelledOnce (kind : ColumnKind) (token : Token) (value : ℕ) : Type 0 where

@@ -49,6 +49,32 @@ pub fn tag_bits(kind: CodedKind) -> u32
     }
 }
 
+/// The tables of HasCustomAttribute, by tag.
+static ATTRIBUTE_PARENTS: [Option<u8>; 22] = [
+    Some(METHOD_DEF),
+    Some(FIELD),
+    Some(TYPE_REF),
+    Some(TYPE_DEF),
+    Some(PARAM),
+    Some(INTERFACE_IMPL),
+    Some(MEMBER_REF),
+    Some(MODULE),
+    Some(DECL_SECURITY),
+    Some(PROPERTY),
+    Some(EVENT),
+    Some(STAND_ALONE_SIG),
+    Some(MODULE_REF),
+    Some(TYPE_SPEC),
+    Some(ASSEMBLY),
+    Some(ASSEMBLY_REF),
+    Some(FILE),
+    Some(EXPORTED_TYPE),
+    Some(MANIFEST_RESOURCE),
+    Some(GENERIC_PARAM),
+    Some(GENERIC_PARAM_CONSTRAINT),
+    Some(METHOD_SPEC),
+];
+
 /// Returns the table of each tag, from tag 0. An unused tag has none (ECMA-335 II.24.2.6).
 pub fn tables(kind: CodedKind) -> &'static [Option<u8>]
     ensures { result.now ≡ tables_of kind }
@@ -56,30 +82,7 @@ pub fn tables(kind: CodedKind) -> &'static [Option<u8>]
     match kind {
         CodedKind::TypeDefOrRef => &[Some(TYPE_DEF), Some(TYPE_REF), Some(TYPE_SPEC)],
         CodedKind::HasConstant => &[Some(FIELD), Some(PARAM), Some(PROPERTY)],
-        CodedKind::HasCustomAttribute => &[
-            Some(METHOD_DEF),
-            Some(FIELD),
-            Some(TYPE_REF),
-            Some(TYPE_DEF),
-            Some(PARAM),
-            Some(INTERFACE_IMPL),
-            Some(MEMBER_REF),
-            Some(MODULE),
-            Some(DECL_SECURITY),
-            Some(PROPERTY),
-            Some(EVENT),
-            Some(STAND_ALONE_SIG),
-            Some(MODULE_REF),
-            Some(TYPE_SPEC),
-            Some(ASSEMBLY),
-            Some(ASSEMBLY_REF),
-            Some(FILE),
-            Some(EXPORTED_TYPE),
-            Some(MANIFEST_RESOURCE),
-            Some(GENERIC_PARAM),
-            Some(GENERIC_PARAM_CONSTRAINT),
-            Some(METHOD_SPEC),
-        ],
+        CodedKind::HasCustomAttribute => &ATTRIBUTE_PARENTS,
         CodedKind::HasFieldMarshal => &[Some(FIELD), Some(PARAM)],
         CodedKind::HasDeclSecurity => &[Some(TYPE_DEF), Some(METHOD_DEF), Some(ASSEMBLY)],
         CodedKind::MemberRefParent => &[

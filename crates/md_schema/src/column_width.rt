@@ -1,6 +1,6 @@
 ghost use Rattle.std.specs.Prelude.{◌≡◌, ◌≤◌};
 ghost use Rattle.std.specs.List.{list_all};
-ghost use Rattle.md_schema.specs.Width.{heap_width_of, index_width_of, is_small, rows_of, width_of};
+ghost use Rattle.md_schema.specs.Width.{heap_width_of, index_width_of, is_small, rows_of, column_width_of};
 
 use crate::coded_kind::{tables, tag_bits};
 use crate::column::ColumnKind;
@@ -15,7 +15,7 @@ pub struct Counts {
 
 /// Returns the bytes of a column, 2 or 4 (ECMA-335 II.24.2.6). A table of number 64 or more counts as one without rows.
 pub fn width(kind: ColumnKind, counts: &Counts) -> u8
-    ensures { result ≡ width_of kind counts.now }
+    ensures { result ≡ column_width_of kind counts.now }
 {
     match kind {
         ColumnKind::U8Pad | ColumnKind::U16 => 2,
@@ -76,53 +76,5 @@ fn rows(counts: &Counts, table: u8) -> u32
         counts.rows[table as usize]
     } else {
         0
-    }
-}
-
-#[cfg(test)]
-mod tests {
-    use super::*;
-    use crate::coded_kind::CodedKind;
-    use crate::table::{FIELD, METHOD_SPEC, TYPE_DEF};
-
-    #[test]
-    fn widths_follow_rows_and_heaps(rt: HostRuntime) {
-        let attribute = ColumnKind::Coded(CodedKind::HasCustomAttribute);
-        // The kind, the table that has rows, how many, the heap byte, and the bytes of the column.
-        let cases = [
-            (ColumnKind::Index(TYPE_DEF), TYPE_DEF, 65_535, 0, 2),
-            (ColumnKind::Index(TYPE_DEF), TYPE_DEF, 65_536, 0, 4),
-            (ColumnKind::Index(TYPE_DEF), FIELD, 65_536, 0, 2),
-            (ColumnKind::Start(FIELD), FIELD, 65_535, 7, 2),
-            (ColumnKind::Start(FIELD), FIELD, 65_536, 0, 4),
-            (ColumnKind::Index(64), FIELD, 65_536, 0, 2),
-            (attribute, METHOD_SPEC, 2_047, 0, 2),
-            (attribute, METHOD_SPEC, 2_048, 0, 4),
-            (attribute, TYPE_DEF, 2_048, 0, 4),
-            (ColumnKind::Text, FIELD, 0, 6, 2),
-            (ColumnKind::Text, FIELD, 0, 1, 4),
-            (ColumnKind::Guid, FIELD, 0, 5, 2),
-            (ColumnKind::Guid, FIELD, 0, 2, 4),
-            (ColumnKind::Blob, FIELD, 0, 3, 2),
-            (ColumnKind::Blob, FIELD, 0, 4, 4),
-            (ColumnKind::Sig, FIELD, 0, 4, 4),
-            (ColumnKind::U8Pad, FIELD, 65_536, 7, 2),
-            (ColumnKind::U16, FIELD, 65_536, 7, 2),
-            (ColumnKind::U32, FIELD, 0, 0, 4),
-            (ColumnKind::Rva, FIELD, 0, 0, 4),
-            (ColumnKind::Offset, FIELD, 0, 0, 4),
-        ];
-        for (kind, table, count, heap_sizes, bytes) in cases {
-            let mut rows = [0; 64];
-            if table < 64 {
-                rows[table as usize] = count;
-            }
-            let counts = Counts { rows, heap_sizes };
-            assert_eq!(rt;
-                width(kind, &counts),
-                bytes,
-                "{kind:?} at {count} rows, heaps {heap_sizes}"
-            );
-        }
     }
 }

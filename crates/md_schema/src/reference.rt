@@ -1,6 +1,6 @@
 ghost use Rattle.std.specs.Prelude.{◌≡◌};
 ghost use Rattle.std.specs.List.{list_any};
-ghost use Rattle.md_schema.specs.Reference.{DecodesIndex, MatchesReference, is_named, is_same, is_table, may_name_of};
+ghost use Rattle.md_schema.specs.Reference.{index_of, is_named, is_same, is_tag_table, may_name_of, reference_of};
 
 use crate::coded::{Coded, decode_coded};
 use crate::coded_kind::tables;
@@ -20,14 +20,14 @@ pub fn may_name(kind: ColumnKind, table: u8) -> bool
 
 /// Whether a tag has this table.
 fn is_among(tables: &[Option<u8>], table: u8) -> bool
-    ensures { result ≡ list_any (is_table table) tables.now }
+    ensures { result ≡ list_any (is_tag_table table) tables.now }
 {
     tables.iter().any(|named| is_of(*named, table))
 }
 
 /// Whether this is the table of a tag.
 fn is_of(named: Option<u8>, table: u8) -> bool
-    ensures { result ≡ is_table table named }
+    ensures { result ≡ is_tag_table table named }
 {
     matches!(named, Some(other) if other == table)
 }
@@ -35,7 +35,7 @@ fn is_of(named: Option<u8>, table: u8) -> bool
 /// Reads a number of a column as the row that it names. `None` exactly where the column is neither an index into a table
 /// nor a coded index (ECMA-335 II.24.2.6).
 pub fn decode_reference(kind: ColumnKind, value: u32) -> Option<Coded>
-    ensures { MatchesReference kind value result }
+    ensures { result ≡ reference_of kind value }
 {
     match kind {
         ColumnKind::Index(table) => Some(decode_index(table, value)),
@@ -46,7 +46,7 @@ pub fn decode_reference(kind: ColumnKind, value: u32) -> Option<Coded>
 
 /// Reads `value` as a row of the table.
 fn decode_index(table: u8, value: u32) -> Coded
-    ensures { DecodesIndex table value result }
+    ensures { result ≡ index_of table value }
 {
     if value == 0 {
         Coded::Null

@@ -2,7 +2,7 @@ ghost use Rattle.std.specs.Prelude.{◌≡◌, ◌<◌, ◌≤◌, length, IfSom
 ghost use Rattle.std.specs.List.{position};
 ghost use Rattle.std.specs.Option.{option_map};
 ghost use Rattle.md_schema.specs.Column.{seen_column, seen_columns};
-ghost use Rattle.md_schema.specs.Entry.{column_of, columns_of, is_start, name_of, start_column_of};
+ghost use Rattle.md_schema.specs.Entry.{column_of, columns_of, is_start, table_name_of, start_column_of};
 
 use crate::column::{Column, ColumnKind};
 use crate::schema::entry;
@@ -18,7 +18,7 @@ pub fn columns(table: u8) -> Option<&'static [Column]>
 
 /// Returns the name of the table. `None` exactly where it is not one of the 38 tables (ECMA-335 II.22).
 pub fn table_name(table: u8) -> Option<&'static str>
-    ensures { option_map (λ name. name.now) result ≡ name_of table }
+    ensures { option_map (λ name. name.now) result ≡ table_name_of table }
 {
     Some(entry(table)?.name)
 }

@@ -10,12 +10,12 @@ use Rattle.std.proofs.lemmas.List.Sums.{sum_by_more_le}
 use Rattle.std.proofs.lemmas.Option.{get_or_from_slice_get, slice_get_within}
 use Rattle.md_schema.specs.Column.{ColumnOf, seen_column, seen_columns}
 use Rattle.md_schema.specs.Entry.{column_of, columns_of}
-use Rattle.md_schema.specs.Width.{rows_of, width_of}
+use Rattle.md_schema.specs.Width.{rows_of, column_width_of}
 use Rattle.md_schema.specs.declared.column.Column.{Column}
 use Rattle.md_schema.specs.declared.column_width.Counts.{Counts}
-use Rattle.md_tables.specs.Cell.{IsRowOf, offset_of, place_of}
-use Rattle.md_tables.specs.Header.{count_of}
-use Rattle.md_tables.specs.Layout.{Head, Opens, columns_width, first_place, head_of, row_width}
+use Rattle.md_schema.specs.Cell.{IsRowOf, offset_of, place_of}
+use Rattle.md_schema.specs.Header.{count_of}
+use Rattle.md_schema.specs.Layout.{Head, OpensTables, columns_width, first_place, head_of, table_row_width}
 use Rattle.md_tables.proofs.LayoutLemmas.{columns_width-seen, first_place-mono, first_place-more}
 
 -- the rows of a table, as the stream counts them
@@ -29,7 +29,7 @@ head_past stream table h =
     let long = length-map-range_with_len (count_of stream) 0 64 in
     get_or_past (map (count_of stream) (range_with_len 0 64)) table 0 (omega (arith, long))
 
-pub few_rows : (stream : List ℕ) (head : Head) (table : ℕ) → Opens stream head → rows_of head.counts table < 16777216
+pub few_rows : (stream : List ℕ) (head : Head) (table : ℕ) → OpensTables stream head → rows_of head.counts table < 16777216
 few_rows stream head table o =
     let seen : rows_of head.counts table ≡ rows_of (head_of stream).counts table = ap (λ h. rows_of h.counts table) o.seen in
     ⊎_elim
@@ -37,7 +37,7 @@ few_rows stream head table o =
     (λ (h : 64 ≤ table). let e = head_past stream table h in omega (arith, seen, e))
     (cases_lt table 64)
 
-pub table_below : (stream : List ℕ) (head : Head) (table rid : ℕ) → Opens stream head → IsRowOf head table rid → table < 64
+pub table_below : (stream : List ℕ) (head : Head) (table rid : ℕ) → OpensTables stream head → IsRowOf head table rid → table < 64
 table_below stream head table rid o r =
     let seen : rows_of head.counts table ≡ rows_of (head_of stream).counts table = ap (λ h. rows_of h.counts table) o.seen in
     ⊎_elim
@@ -46,10 +46,10 @@ table_below stream head table rid o r =
     (cases_lt table 64)
 
 -- a row stands in the stream
-pub row_within : (stream : List ℕ) (head : Head) (table rid : ℕ) → Opens stream head → IsRowOf head table rid →
-    first_place head table + (rid - 1) * row_width head.counts table + row_width head.counts table ≤ length stream
+pub row_within : (stream : List ℕ) (head : Head) (table rid : ℕ) → OpensTables stream head → IsRowOf head table rid →
+    first_place head table + (rid - 1) * table_row_width head.counts table + table_row_width head.counts table ≤ length stream
 row_within stream head table rid o r =
-    let w = row_width head.counts table in
+    let w = table_row_width head.counts table in
     let below = table_below stream head table rid o r in
     let more = first_place-more head table in
     let mono = first_place-mono head (table + 1) 64 (omega arith) in
@@ -68,11 +68,11 @@ columns_with table column found e = column_in (columns_of table) column found e
 
 -- a column stands in its row
 pub offset_within : (counts : Counts) (table column : ℕ) (found : ColumnOf) → column_of table column ≡ Some found →
-    offset_of counts table column + width_of found.kind counts ≤ row_width counts table
-unfolding offset_of row_width columns_width
+    offset_of counts table column + column_width_of found.kind counts ≤ table_row_width counts table
+unfolding offset_of table_row_width columns_width
 offset_within counts table column found e =
     let (columns, all, at) = columns_with table column found e in
-    let f : ColumnOf → ℕ = λ c. width_of c.kind counts in
+    let f : ColumnOf → ℕ = λ c. column_width_of c.kind counts in
     let within = slice_get_within columns column found at in
     let read = get_or_from_slice_get columns column found found at in
     let sum = sum_by_more_le f columns column found within in
@@ -83,8 +83,8 @@ pub some_is : {A : Type 0} (o : Option A) → IsSome o → (x : A) × (o ≡ Som
 some_is None h = absurd (cc)
 some_is (Some x) h = (x, refl)
 
-pub cell_within : (stream : List ℕ) (head : Head) (table rid column : ℕ) (found : ColumnOf) → Opens stream head → IsRowOf head table rid → column_of table column ≡ Some found →
-    place_of head table rid column + width_of found.kind head.counts ≤ length stream
+pub cell_within : (stream : List ℕ) (head : Head) (table rid column : ℕ) (found : ColumnOf) → OpensTables stream head → IsRowOf head table rid → column_of table column ≡ Some found →
+    place_of head table rid column + column_width_of found.kind head.counts ≤ length stream
 unfolding place_of
 cell_within stream head table rid column found o r e =
     let row = row_within stream head table rid o r in
@@ -92,7 +92,7 @@ cell_within stream head table rid column found o r e =
     omega (arith, row, inside)
 
 pub offset-take : (counts : Counts) (table column : ℕ) (cs : List Column) → Some (seen_columns cs) ≡ columns_of table →
-    offset_of counts table column ≡ sum_by (λ c. width_of c.kind counts) (take column cs)
+    offset_of counts table column ≡ sum_by (λ c. column_width_of c.kind counts) (take column cs)
 unfolding offset_of
 offset-take counts table column cs e =
     ap (λ o. option_map_or (λ columns. columns_width counts (take column columns)) o 0) (sym e)

@@ -2,7 +2,8 @@
 use Rattle.std.proofs.Common.{◌≡◌, ℕ, zero, suc, length, get_or, set, ◌+◌, ◌*◌, ◌-◌, ◌<◌, ◌≤◌, true, false, List, refl, sym, ap, subst, ◌∙◌, arith, if◌then◌else◌}
 use Rattle.std.proofs.lemmas.List.Edits.{fill_by_more}
 use Rattle.std.proofs.lemmas.List.FromFn.{sum_by-map-range_with_len_more}
-use Rattle.md_tables.specs.Header.{IsCount, is_present, is_set, present_below, sum_below, valid_of}
+use Rattle.md_schema.specs.Header.{is_present, is_set, present_below, sum_below, valid_of}
+use Rattle.md_tables.specs.inner.Opening.{IsCount}
 
 pub sum_below-zero : (f : ℕ → ℕ) → sum_below f 0 ≡ 0
 unfolding sum_below

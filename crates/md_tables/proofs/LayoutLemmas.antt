@@ -8,38 +8,39 @@ use Rattle.std.proofs.Math.Nat.{mul-le-mul}
 use Rattle.md_schema.specs.Entry.{columns_of}
 use Rattle.md_tables.proofs.HeaderLemmas.{sum_below-mono, sum_below-more, sum_below-zero}
 use Rattle.md_schema.specs.Column.{ColumnOf, seen_column, seen_columns}
-use Rattle.md_schema.specs.Width.{rows_of, width_of}
+use Rattle.md_schema.specs.Width.{rows_of, column_width_of}
 use Rattle.md_schema.specs.declared.column.Column.{Column}
 use Rattle.md_schema.specs.declared.column_width.Counts.{Counts}
-use Rattle.md_tables.specs.Layout.{Head, columns_width, first_place, head_of, row_width}
-use Rattle.md_tables.specs.Header.{IsCounted, count_of, present_below}
+use Rattle.md_schema.specs.Layout.{Head, columns_width, first_place, head_of, table_row_width}
+use Rattle.md_schema.specs.Header.{count_of, present_below}
+use Rattle.md_tables.specs.inner.Opening.{IsCounted}
 
-pub columns_width-seen : (counts : Counts) (cs : List Column) → columns_width counts (seen_columns cs) ≡ sum_by (λ column. width_of column.kind counts) cs
+pub columns_width-seen : (counts : Counts) (cs : List Column) → columns_width counts (seen_columns cs) ≡ sum_by (λ column. column_width_of column.kind counts) cs
 unfolding columns_width
-columns_width-seen counts cs = fold-map (λ b (column : ColumnOf). b + width_of column.kind counts) seen_column 0 cs
+columns_width-seen counts cs = fold-map (λ b (column : ColumnOf). b + column_width_of column.kind counts) seen_column 0 cs
 
-pub row_width-some : (counts : Counts) (table : ℕ) (cs : List ColumnOf) → Some cs ≡ columns_of table → row_width counts table ≡ columns_width counts cs
-unfolding row_width
-row_width-some counts table cs e = ap (λ o. option_map_or (columns_width counts) o 0) (sym e)
+pub table_row_width-some : (counts : Counts) (table : ℕ) (cs : List ColumnOf) → Some cs ≡ columns_of table → table_row_width counts table ≡ columns_width counts cs
+unfolding table_row_width
+table_row_width-some counts table cs e = ap (λ o. option_map_or (columns_width counts) o 0) (sym e)
 
-pub row_width-none : (counts : Counts) (table : ℕ) → None ≡ columns_of table → row_width counts table ≡ 0
-unfolding row_width
-row_width-none counts table e = ap (λ o. option_map_or (columns_width counts) o 0) (sym e)
+pub table_row_width-none : (counts : Counts) (table : ℕ) → None ≡ columns_of table → table_row_width counts table ≡ 0
+unfolding table_row_width
+table_row_width-none counts table e = ap (λ o. option_map_or (columns_width counts) o 0) (sym e)
 
 pub first_place-zero : (head : Head) → first_place head 0 ≡ 24 + 4 * head.present
 unfolding first_place
-first_place-zero head = ap (λ n. 24 + 4 * head.present + n) (sum_below-zero (λ lesser. rows_of head.counts lesser * row_width head.counts lesser)) ∙ omega arith
+first_place-zero head = ap (λ n. 24 + 4 * head.present + n) (sum_below-zero (λ lesser. rows_of head.counts lesser * table_row_width head.counts lesser)) ∙ omega arith
 
-pub first_place-more : (head : Head) (table : ℕ) → first_place head (table + 1) ≡ first_place head table + rows_of head.counts table * row_width head.counts table
+pub first_place-more : (head : Head) (table : ℕ) → first_place head (table + 1) ≡ first_place head table + rows_of head.counts table * table_row_width head.counts table
 unfolding first_place
 first_place-more head table =
-    let more = sum_below-more (λ lesser. rows_of head.counts lesser * row_width head.counts lesser) table in
+    let more = sum_below-more (λ lesser. rows_of head.counts lesser * table_row_width head.counts lesser) table in
     omega (arith, more)
 
 pub first_place-mono : (head : Head) (n m : ℕ) → n ≤ m → first_place head n ≤ first_place head m
 unfolding first_place
 first_place-mono head n m h =
-    let mono = sum_below-mono (λ lesser. rows_of head.counts lesser * row_width head.counts lesser) n m h in
+    let mono = sum_below-mono (λ lesser. rows_of head.counts lesser * table_row_width head.counts lesser) n m h in
     omega (arith, mono)
 
 pub small_product : (a b : ℕ) → a < 2 ^ 24 → b ≤ 36 → a * b ≤ 16777216 * 36

@@ -3,14 +3,14 @@ use Rattle.std.proofs.Common.{◌≡◌, ℕ, ◌+◌, ◌-◌, ◌≤◌, Bool,
 use Rattle.std.specs.List.{filter}
 use Rattle.std.proofs.lemmas.List.{append-nil}
 use Rattle.std.proofs.lemmas.List.FromFn.{filter_of_map_range_with_len_more}
-use Rattle.md_tables.specs.Layout.{Head, Opens}
-use Rattle.md_tables.specs.Links.{rows_to}
-use Rattle.md_tables.specs.Runs.{row_count}
+use Rattle.md_schema.specs.Layout.{Head, OpensTables}
+use Rattle.md_schema.specs.LinkedRows.{rows_to}
+use Rattle.md_schema.specs.Runs.{table_row_count}
 use Rattle.md_schema.specs.Width.{rows_of}
 use Rattle.cil_base.specs.Token.{Token}
 
-pub row_count-is : (stream : List ℕ) (head : Head) (table : ℕ) → Opens stream head → rows_of head.counts table ≡ row_count stream table
-row_count-is stream head table o = ap (λ (h : Head). rows_of h.counts table) o.seen
+pub table_row_count-is : (stream : List ℕ) (head : Head) (table : ℕ) → OpensTables stream head → rows_of head.counts table ≡ table_row_count stream table
+table_row_count-is stream head table o = ap (λ (h : Head). rows_of h.counts table) o.seen
 
 pub rows_to-none : (p : Token → Bool) (table : ℕ) → filter p (rows_to table 0) ≡ []
 unfolding rows_to

@@ -3,8 +3,9 @@ use Rattle.std.proofs.Common.{◌≡◌, ℕ, ◌<◌, ◌≤◌, ⊎_elim, List
 use Rattle.std.specs.Option.{IsSome}
 use Rattle.std.proofs.lemmas.Bool.{cases_lt}
 use Rattle.md_schema.specs.Entry.{columns_of}
-use Rattle.md_tables.specs.Header.{IsSupported, IsUnsupported}
-use Rattle.md_tables.specs.Layout.{WholeIsNotRefused}
+use Rattle.md_schema.specs.Header.{IsSupported}
+use Rattle.md_tables.specs.Refusal.{IsUnsupported}
+use Rattle.md_tables.specs.Refusal.{WholeIsNotRefused}
 use Rattle.md_tables.specs.declared.tables.TablesRefusal.TheVariants.{UnsupportedTable, BadHeapSizes, BadTables}
 
 some_none : {A : Type 0} (o : Option A) → IsSome o → o ≡ None → ⊥

@@ -1,6 +1,3 @@
-pub mod Cell
-pub mod Header
-pub mod Layout
-pub mod Links
-pub mod Runs
+pub mod Refusal
 pub mod Written
+pub mod inner

@@ -2,18 +2,18 @@
 use Rattle.std.specs.Prelude.{ℕ, ◌≡◌, ◌<◌, ◌+◌, ◌^◌, List, [], ◌∷◌, ◌++◌, length, take, Some, slice_get}
 use Rattle.byteorder.specs.Endian.{little_bytes}
 use Rattle.md_schema.specs.Column.{ColumnOf}
-use Rattle.md_schema.specs.Width.{width_of}
+use Rattle.md_schema.specs.Width.{column_width_of}
 use Rattle.md_schema.specs.declared.column_width.Counts.{Counts}
-use Rattle.md_tables.specs.Cell.{read_width}
-use Rattle.md_tables.specs.Header.{number_at}
-use Rattle.md_tables.specs.Layout.{columns_width}
+use Rattle.md_schema.specs.Cell.{read_width}
+use Rattle.cil_base.specs.Place.{number_at}
+use Rattle.md_schema.specs.Layout.{columns_width}
 
 -- the numbers of a row, column by column, the lowest byte first; a byte that has a pad is followed by a zero
 abbrev pub row_bytes : Counts → List ColumnOf → List ℕ → List ℕ
 row_bytes counts [] numbers = []
 row_bytes counts (column ∷ columns) [] = []
 row_bytes counts (column ∷ columns) (number ∷ numbers) =
-    little_bytes (width_of column.kind counts) number ++ row_bytes counts columns numbers
+    little_bytes (column_width_of column.kind counts) number ++ row_bytes counts columns numbers
 
 -- there is a number for each column, and it fits the bytes that are read of it
 abbrev pub Fits : Counts → List ColumnOf → List ℕ → Type 0

@@ -1,40 +1,23 @@
 ghost use Rattle.std.specs.Prelude.{ℕ, ◌≡◌, ◌<◌, ◌≤◌, ◌+◌, ◌*◌, ◌^◌, ◌&&◌, length, is_none, true, IfNone, IfSome};
 ghost use Rattle.md_schema.specs.Entry.{columns_of};
-ghost use Rattle.md_tables.specs.Header.{IsCount, IsCounted, IsSupported, IsUnsupported, count_of, is_present, is_set, number_at, present_below, valid_of};
-ghost use Rattle.md_tables.specs.Layout.{IsWhole};
+ghost use Rattle.cil_base.specs.Place.{number_at};
+ghost use Rattle.md_schema.specs.Header.{IsSupported, count_of, is_present, is_set, present_below, valid_of};
+ghost use Rattle.md_tables.specs.Refusal.{IsUnsupported};
+ghost use Rattle.md_tables.specs.inner.Opening.{IsCount, IsCounted};
+ghost use Rattle.md_schema.specs.Layout.{IsWhole};
 
-use byteorder::{ByteOrder, LittleEndian};
-use cil_base::MAX_RID;
+use cil_base::{MAX_RID, number_at};
 use md_schema::columns;
 
 /// The bytes of the header before the counts.
-pub const HEADER_LEN: usize = 24;
-
-/// Returns the number of 2 bytes at the place.
-#[tactic(auto, unfolding(crate::specs::Header::number_at))]
-pub fn u16_at(stream: &[u8], place: usize) -> u16
-    requires { place + 2 ≤ length stream.now }
-    ensures { result ≡ number_at stream.now place 2 }
-{
-    LittleEndian::read_u16(&stream[place..])
-}
-
-/// Returns the number of 4 bytes at the place.
-#[tactic(auto, unfolding(crate::specs::Header::number_at))]
-pub fn u32_at(stream: &[u8], place: usize) -> u32
-    requires { place + 4 ≤ length stream.now }
-    ensures { result ≡ number_at stream.now place 4 }
-{
-    LittleEndian::read_u32(&stream[place..])
-}
+pub(crate) const HEADER_LEN: usize = 24;
 
 /// Returns Valid, a bit for each table that is in the stream.
-#[tactic(auto, unfolding(crate::specs::Header::number_at))]
 fn valid(stream: &[u8]) -> u64
     requires { 24 ≤ length stream.now }
     ensures { result ≡ valid_of stream.now }
 {
-    LittleEndian::read_u64(&stream[8..])
+    number_at(stream, 8, 8)
 }
 
 /// Whether the table's bit stands.
@@ -54,7 +37,7 @@ fn is_unknown(valid: u64, table: u8) -> bool
 }
 
 /// Returns the first table of the stream that is not one of the 38.
-pub fn unsupported_table(stream: &[u8]) -> Option<u8>
+pub(crate) fn unsupported_table(stream: &[u8]) -> Option<u8>
     requires { 24 ≤ length stream.now }
     ensures found { IfSome result (IsUnsupported stream.now) }
     ensures none { IfNone result ((table : ℕ) → table < 64 → IsSupported stream.now table) }
@@ -85,13 +68,13 @@ fn read_count(stream: &[u8], valid: u64, table: u8, present: usize) -> Option<u3
     if stream.len() - place < 4 {
         return None;
     }
-    let count = u32_at(stream, place);
+    let count = number_at(stream, place, 4) as u32;
     if count > MAX_RID { None } else { Some(count) }
 }
 
 /// Returns the rows of each table, and how many tables are in the stream. `None` where the counts pass the stream, or one
 /// passes 2^24 - 1.
-pub fn read_counts(stream: &[u8]) -> Option<([u32; 64], usize)>
+pub(crate) fn read_counts(stream: &[u8]) -> Option<([u32; 64], usize)>
     requires { 24 ≤ length stream.now }
     ensures some { IfSome result (λ found. IsCounted stream.now found.0 found.1) }
     ensures none { IfNone result (IsWhole stream.now → ⊥) }

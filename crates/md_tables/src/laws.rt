@@ -1,6 +1,6 @@
 //! Laws of the definitions, for the crates above. Each is the contract of a function that does nothing.
 
-ghost use Rattle.md_tables.specs.Layout.{WholeIsNotRefused};
+ghost use Rattle.md_tables.specs.Refusal.{WholeIsNotRefused};
 ghost use Rattle.md_tables.specs.Written.{RowsReadBack};
 
 /// A row whose numbers fit its columns, written column by column, is read back cell by cell, for any columns and counts.

@@ -1,8 +1,8 @@
 ghost use Rattle.std.specs.Prelude.{◌≡◌, IfOk};
 ghost use Rattle.md_schema.specs.Link.{link_table_of};
-ghost use Rattle.md_tables.specs.Cell.{IsRowOf};
-ghost use Rattle.md_tables.specs.Layout.{Opens};
-ghost use Rattle.md_tables.specs.Links.{is_linked, linked_of};
+ghost use Rattle.md_schema.specs.Cell.{IsRowOf};
+ghost use Rattle.md_schema.specs.Layout.{OpensTables};
+ghost use Rattle.md_schema.specs.LinkedRows.{is_linked, linked_of};
 
 use crate::tables::Tables;
 use cil_base::{List, NoMemory, Token};
@@ -19,7 +19,7 @@ impl Tables {
         token: Token,
         link: Link,
     ) -> Result<List<Token>, NoMemory>
-        requires { Opens stream.now self.now }
+        requires { OpensTables stream.now self.now }
         ensures { IfOk result (λ rows. rows ≡ linked_of stream.now token link) }
     {
         let table = link_column(link).table;
@@ -34,7 +34,7 @@ impl Tables {
 
     /// Whether the link's column of this row of its table decodes to exactly the token.
     fn is_linked(&self, stream: &[u8], rid: u32, link: Link, token: Token) -> bool
-        requires opened { Opens stream.now self.now }
+        requires opened { OpensTables stream.now self.now }
         requires row { IsRowOf self.now (link_table_of link) rid }
         ensures { result ≡ is_linked stream.now token link (record { table = link_table_of link; rid = rid }) }
     {
@@ -42,48 +42,5 @@ impl Tables {
         let place = link_column(link);
         let value = self.cell(stream, place.table, rid, place.column);
         names(kind, value, token)
-    }
-}
-
-#[cfg(test)]
-mod tests {
-    use super::*;
-    use std::test::Fail;
-
-    /// Four CustomAttribute rows with the parents 39, 35, 54 and 39.
-    const ATTRIBUTES: [u8; 52] = [
-        0, 0, 0, 0, 2, 0, 0, 1, 0, 0x10, 0, 0, 0, 0, 0, 0, 0, 0, 0, 0, 0, 0, 0, 0, // header
-        4, 0, 0, 0, // count
-        39, 0, 0, 0, 0, 0, 35, 0, 0, 0, 0, 0, 54, 0, 0, 0, 0, 0, 39, 0, 0, 0, 0, 0, // rows
-    ];
-
-    #[test]
-    fn all_linked_rows_are_found_in_order(rt: HostRuntime) -> Result<(), Fail> {
-        let Ok(tables) = Tables::open(&ATTRIBUTES) else {
-            return Err("the stream is not opened".into());
-        };
-        // The token, and whether each of the four rows is linked to it.
-        let cases = [
-            (0x00, 1, [true, false, false, true]),
-            (0x02, 1, [false, true, false, false]),
-            (0x02, 2, [false; 4]),
-            (0x00, 0, [false; 4]),
-        ];
-        for (table, rid, linked) in cases {
-            assert!(rt; rid < 3);
-            let token = Token { table, rid };
-            let found = tables.linked(rt.alloc(), &ATTRIBUTES, token, Link::CustomAttribute)?;
-            let mut wanted = List::new(rt.alloc());
-            for row in 1..5 {
-                if linked[row as usize - 1] {
-                    wanted.push(Token {
-                        table: 0x0c,
-                        rid: row,
-                    })?;
-                }
-            }
-            assert_eq!(rt; found, wanted, "rows linked to {token:?}");
-        }
-        Ok(())
     }
 }

@@ -1,6 +1,7 @@
 ghost use Rattle.std.specs.Prelude.{◌≡◌, ◌<◌, IfErr, IfOk};
 ghost use Rattle.md_schema.specs.Width.{rows_of};
-ghost use Rattle.md_tables.specs.Layout.{Opens, Refuses, first_place, row_width};
+ghost use Rattle.md_schema.specs.Layout.{OpensTables, first_place, table_row_width};
+ghost use Rattle.md_tables.specs.Refusal.{RefusesTables};
 
 use crate::header::{HEADER_LEN, read_counts, unsupported_table};
 use crate::layout::lay_out;
@@ -9,7 +10,7 @@ use std::marker::Model;
 
 /// The tables of an image: how many rows each has, where they stand, and how wide they are. The stream itself is kept
 /// elsewhere, and is handed to each call that reads from it.
-#[derive(Debug, Drop)]
+#[derive(Drop)]
 pub struct Tables {
     counts: Counts,
     present: usize,
@@ -18,7 +19,8 @@ pub struct Tables {
 }
 
 impl Model for Tables {
-    ghost use Rattle.md_tables.specs.Layout.{Head, IsLaidOut};
+    ghost use Rattle.md_schema.specs.Layout.{Head};
+    ghost use Rattle.md_tables.specs.inner.Opening.{IsLaidOut};
 
     ghost Value = { Head };
 
@@ -40,10 +42,10 @@ pub enum TablesRefusal {
 }
 
 impl Tables {
-    /// Opens the tables stream. Takes no memory.
+    /// OpensTables the tables stream. Takes no memory.
     pub fn open(stream: &[u8]) -> Result<Tables, TablesRefusal>
-        ensures ok { IfOk result (Opens stream.now) }
-        ensures refused { IfErr result (Refuses stream.now) }
+        ensures ok { IfOk result (OpensTables stream.now) }
+        ensures refused { IfErr result (RefusesTables stream.now) }
     {
         if stream.len() < HEADER_LEN {
             return Err(TablesRefusal::BadTables);
@@ -96,7 +98,7 @@ impl Tables {
     /// Returns the bytes of a row of a table.
     pub(crate) fn row_width(&self, table: u8) -> usize
         requires { table < 64 }
-        ensures { result ≡ row_width self.now.counts table }
+        ensures { result ≡ table_row_width self.now.counts table }
     {
         self.widths[table as usize]
     }
@@ -106,96 +108,5 @@ impl Tables {
         ensures { result.now ≡ self.now.counts }
     {
         &self.counts
-    }
-}
-
-#[cfg(test)]
-mod tests {
-    use super::*;
-
-    /// One Module row and one TypeDef row.
-    const SMALL: [u8; 56] = [
-        0x00, 0x00, 0x00, 0x00, 0x02, 0x00, 0x00, 0x01, 0x05, 0x00, 0x00, 0x00, 0x00, 0x00, 0x00,
-        0x00, 0x00, 0xfa, 0x01, 0x33, 0x00, 0x16, 0x00, 0x00, 0x01, 0x00, 0x00, 0x00, 0x01, 0x00,
-        0x00, 0x00, 0x00, 0x00, 0x01, 0x00, 0x01, 0x00, 0x00, 0x00, 0x00, 0x00, 0x00, 0x00, 0x00,
-        0x00, 0x0b, 0x00, 0x00, 0x00, 0x00, 0x00, 0x01, 0x00, 0x01, 0x00,
-    ];
-
-    fn refusal(stream: &[u8]) -> Option<TablesRefusal> {
-        Tables::open(stream).err()
-    }
-
-    #[test]
-    fn each_refusal_comes_in_its_order(rt: HostRuntime) {
-        assert_eq!(rt; refusal(&SMALL), None, "the stream as it is");
-        assert_eq!(rt;
-            refusal(&SMALL[..55]),
-            Some(TablesRefusal::BadTables),
-            "cut by one byte"
-        );
-        assert_eq!(rt;
-            refusal(&SMALL[..31]),
-            Some(TablesRefusal::BadTables),
-            "cut in the counts"
-        );
-        assert_eq!(rt;
-            refusal(&SMALL[..0]),
-            Some(TablesRefusal::BadTables),
-            "empty"
-        );
-        let mut pads = SMALL;
-        pads[14] = 0x01;
-        assert_eq!(rt; refusal(&pads), Some(TablesRefusal::UnsupportedTable(48)));
-        assert_eq!(rt;
-            refusal(&pads[..23]),
-            Some(TablesRefusal::BadTables),
-            "no whole header"
-        );
-        pads[8] = 0x0d;
-        assert_eq!(rt;
-            refusal(&pads),
-            Some(TablesRefusal::UnsupportedTable(3)),
-            "the lowest"
-        );
-        let mut heaps = SMALL;
-        heaps[6] = 0x08;
-        assert_eq!(rt; refusal(&heaps), Some(TablesRefusal::BadHeapSizes(8)));
-        heaps[14] = 0x01;
-        assert_eq!(rt;
-            refusal(&heaps),
-            Some(TablesRefusal::UnsupportedTable(48)),
-            "both"
-        );
-        let mut rows = SMALL;
-        rows[28] = 0x02;
-        assert_eq!(rt;
-            refusal(&rows),
-            Some(TablesRefusal::BadTables),
-            "two TypeDef rows"
-        );
-        let mut counts = SMALL;
-        counts[27] = 0x01;
-        assert_eq!(rt;
-            refusal(&counts),
-            Some(TablesRefusal::BadTables),
-            "2^24 and one rows"
-        );
-    }
-
-    #[test]
-    fn tables_have_the_rows_of_the_header(rt: HostRuntime) {
-        let Ok(tables) = Tables::open(&SMALL) else {
-            panic!(rt; "the stream is not opened")
-        };
-        for (table, rows) in [
-            (0x00, 1),
-            (0x02, 1),
-            (0x01, 0),
-            (0x2c, 0),
-            (0x40, 0),
-            (0xff, 0),
-        ] {
-            assert_eq!(rt; tables.rows(table), rows, "table {table}");
-        }
     }
 }

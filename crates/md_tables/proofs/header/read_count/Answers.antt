@@ -1,6 +1,6 @@
 -- A count that passes the stream passes a whole one too.
 use Rattle.std.proofs.Common.{rules, ◌≡◌, true}
-use Rattle.md_tables.specs.Header.{is_set}
+use Rattle.md_schema.specs.Header.{is_set}
 use Rattle.md_tables.proofs.HeaderLemmas.{cut_count}
 use Rattle.md_tables.proofs.header.read_count.Goals as goal
 

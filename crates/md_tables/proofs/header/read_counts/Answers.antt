@@ -3,7 +3,7 @@ use Rattle.std.proofs.Common.{◌≡◌, ◌<◌, ◌+◌, ◌∙◌, sym, subst
 use borrow.Author.Count.{below_more}
 use Rattle.std.proofs.lemmas.List.{length-set}
 use Rattle.std.proofs.lemmas.List.FromFn.{fill_by_all}
-use Rattle.md_tables.specs.Header.{count_of, present_below}
+use Rattle.md_schema.specs.Header.{count_of, present_below}
 use Rattle.md_tables.proofs.HeaderLemmas.{IsNext, fill-next, next-clear, next-set, present-zero}
 use Rattle.md_tables.proofs.header.read_counts.Goals.{then-is_bit_set, else-is_bit_set}
 use Rattle.md_tables.proofs.header.read_counts.Goals as goal

@@ -1,5 +1,5 @@
 use Rattle.std.proofs.Common.{ℕ, ◌≡◌, ◌<◌, ◌≤◌, ◌+◌, ◌*◌, ◌^◌, length, get_or}
-use Rattle.md_tables.specs.Header.{count_of, present_below, valid_of}
+use Rattle.md_schema.specs.Header.{count_of, present_below, valid_of}
 use Rattle.md_tables.proofs.header.read_counts.Given as goal
 
 abbrev pub invariant-loop-table : goal.invariant-loop-table

@@ -1,5 +1,5 @@
 use Rattle.std.proofs.Common.{ℕ, ◌≡◌, ◌<◌}
-use Rattle.md_tables.specs.Header.{IsSupported, valid_of}
+use Rattle.md_schema.specs.Header.{IsSupported, valid_of}
 use Rattle.md_tables.proofs.header.unsupported_table.Given as goal
 
 abbrev pub invariant-loop-table : goal.invariant-loop-table

@@ -2,11 +2,11 @@
 use Rattle.std.proofs.Common.{ℕ, ◌+◌, ◌≤◌, length, Option, sym, subst, ap, ◌∙◌}
 use Rattle.std.specs.Option.{option_map_or}
 use Rattle.md_schema.specs.Column.{ColumnOf, seen_column}
-use Rattle.md_schema.specs.Width.{width_of}
+use Rattle.md_schema.specs.Width.{column_width_of}
 use Rattle.md_schema.specs.declared.column_width.Counts.{Counts}
-use Rattle.md_tables.specs.Cell.{cell_of, place_of, read_width}
-use Rattle.md_tables.specs.Header.{number_at}
-use Rattle.md_tables.specs.Layout.{Head, head_of}
+use Rattle.md_schema.specs.Cell.{cell_of, place_of, read_width}
+use Rattle.cil_base.specs.Place.{number_at}
+use Rattle.md_schema.specs.Layout.{Head, head_of}
 use Rattle.md_tables.proofs.CellLemmas.{cell_within}
 use Rattle.md_tables.proofs.tables.Tables.cell.Goals as goal
 
@@ -15,8 +15,8 @@ number-requires c =
     let stream = c.args.stream.now in
     let kind = c.in-Some.found.kind in
     let within = cell_within stream c.args.self.now c.args.table c.args.rid c.args.column (seen_column c.in-Some.found) c.requires.opened c.requires.row (sym c.in-Some.ensures) in
-    subst (λ (k : Counts). c.place-place.result + width_of kind k ≤ length stream) (sym c.counts.ensures)
-    (subst (λ (p : ℕ). p + width_of kind c.args.self.now.counts ≤ length stream) (sym c.place-place.ensures) within)
+    subst (λ (k : Counts). c.place-place.result + column_width_of kind k ≤ length stream) (sym c.counts.ensures)
+    (subst (λ (p : ℕ). p + column_width_of kind c.args.self.now.counts ≤ length stream) (sym c.place-place.ensures) within)
 
 pub returns : goal.returns
 unfolding cell_of

@@ -4,8 +4,8 @@ use Rattle.std.specs.Option.{option_map_or}
 use Rattle.md_schema.specs.Link.{link_column_of, link_table_of}
 use Rattle.md_schema.specs.Reference.{is_named}
 use Rattle.md_schema.specs.declared.column.ColumnKind.{ColumnKind}
-use Rattle.md_tables.specs.Cell.{cell_of}
-use Rattle.md_tables.specs.Links.{is_linked}
+use Rattle.md_schema.specs.Cell.{cell_of}
+use Rattle.md_schema.specs.LinkedRows.{is_linked}
 use Rattle.md_tables.proofs.tables.Tables.is_linked.Goals as goal
 
 pub returns : goal.returns

@@ -1,10 +1,10 @@
 -- The rows so far that are linked.
 use Rattle.std.proofs.Common.{ℕ, ◌≡◌, ◌-◌, ap, ◌∙◌, sym, arith}
 use Rattle.std.specs.List.{filter}
-use Rattle.md_tables.specs.Links.{is_linked, linked_of, rows_to}
-use Rattle.md_tables.specs.Runs.{row_count}
+use Rattle.md_schema.specs.LinkedRows.{is_linked, linked_of, rows_to}
+use Rattle.md_schema.specs.Runs.{table_row_count}
 use Rattle.md_tables.proofs.CellLemmas.{few_rows}
-use Rattle.md_tables.proofs.LinksLemmas.{linked-no, linked-yes, row_count-is, rows_to-none}
+use Rattle.md_tables.proofs.LinksLemmas.{linked-no, linked-yes, table_row_count-is, rows_to-none}
 use Rattle.md_tables.proofs.tables.Tables.linked.Goals.{then-is_linked+in_ok-push, else-is_linked}
 use Rattle.md_tables.proofs.tables.Tables.linked.Goals as goal
 
@@ -43,8 +43,8 @@ unfolding linked_of
 returns c =
     let p = is_linked c.args.stream.now c.args.token c.args.link in
     let table = c.link_column-table.result.table in
-    let count = c.rows-rid-end.ensures ∙ row_count-is c.args.stream.now c.args.self.now table c.requires in
-    let end : c.loop-rid.rid - 1 ≡ row_count c.args.stream.now table = omega (arith, count) in
+    let count = c.rows-rid-end.ensures ∙ table_row_count-is c.args.stream.now c.args.self.now table c.requires in
+    let end : c.loop-rid.rid - 1 ≡ table_row_count c.args.stream.now table = omega (arith, count) in
     c.loop-rid.invariant.rows
     ∙ ap (λ (n : ℕ). filter p (rows_to table n)) end
-    ∙ ap (λ (t : ℕ). filter p (rows_to t (row_count c.args.stream.now t))) c.link_column-table.ensures.table
+    ∙ ap (λ (t : ℕ). filter p (rows_to t (table_row_count c.args.stream.now t))) c.link_column-table.ensures.table

@@ -1,6 +1,6 @@
 use Rattle.std.proofs.Common.{◌≡◌, ◌-◌, ◌≤◌}
 use Rattle.std.specs.List.{filter}
-use Rattle.md_tables.specs.Links.{is_linked, rows_to}
+use Rattle.md_schema.specs.LinkedRows.{is_linked, rows_to}
 use Rattle.md_tables.proofs.tables.Tables.linked.Given as goal
 
 abbrev pub invariant-loop-rid : goal.invariant-loop-rid

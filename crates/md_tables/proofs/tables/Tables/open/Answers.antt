@@ -1,6 +1,6 @@
 -- What was read is the head of the stream.
 use Rattle.std.proofs.Common.{◌≡◌, ◌≤◌, ◌<◌, ◌+◌, ◌*◌, sym, ap, subst, ◌∙◌, refl, arith, slice_index, length}
-use Rattle.md_tables.specs.Layout.{first_place, head_of}
+use Rattle.md_schema.specs.Layout.{first_place, head_of}
 use Rattle.md_tables.proofs.LayoutLemmas.{counted_rows, opened_head}
 use Rattle.md_tables.proofs.tables.Tables.open.Goals as goal
 

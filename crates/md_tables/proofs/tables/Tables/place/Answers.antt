@@ -1,7 +1,7 @@
 -- A row that stands in the stream has its columns there.
 use Rattle.std.proofs.Common.{◌-◌, ◌*◌, ap, ◌∙◌, arith}
 use Rattle.md_schema.specs.Entry.{column_of}
-use Rattle.md_tables.specs.Cell.{offset_of, place_of}
+use Rattle.md_schema.specs.Cell.{offset_of, place_of}
 use Rattle.md_tables.proofs.CellLemmas.{offset_within, row_within, some_is, table_below}
 use Rattle.md_tables.proofs.tables.Tables.place.Goals as goal
 
