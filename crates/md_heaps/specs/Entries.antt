@@ -1,5 +1,6 @@
 -- What stands at an index of a heap: ECMA-335 II.24.2.3 to II.24.2.5.
-use Rattle.std.specs.Prelude.{ℕ, ◌-◌, ◌*◌, List, [], ◌∷◌, length, take, drop, Option, Some, None, nat_le, ◌==◌, if◌then◌else◌}
+use Rattle.std.specs.Prelude.{ℕ, ◌-◌, ◌*◌, List, [], ◌∷◌, length, take, drop, Option, Some, None, nat_le, ◌==◌}
+use Rattle.std.specs.Prelude.{if◌then◌else◌}
 use Rattle.std.specs.Option.{option_map}
 use Rattle.cil_base.specs.Heaps.{entry}
 use Rattle.md_heaps.specs.declared.guid.GuidAt.{GuidAt}
@@ -20,4 +21,7 @@ blob heap index = if index == 0 then Some [] else entry (drop index heap)
 
 -- the GUID of a number, counted from 1: number 0 is the null GUID
 unfoldable pub guid : List ℕ → ℕ → GuidAt
-guid heap number = if number == 0 then Null else if nat_le (16 * number) (length heap) then Is (take 16 (drop (16 * number - 16) heap)) else Missing
+guid heap number =
+    if number == 0 then Null
+    else if nat_le (16 * number) (length heap) then Is (take 16 (drop (16 * number - 16) heap))
+    else Missing

@@ -15,32 +15,3 @@ pub fn blob_at(heap: &[u8], index: u32) -> Option<&[u8]>
     }
     entry_at_front(from_index(heap, index))
 }
-
-#[cfg(test)]
-mod tests {
-    use super::*;
-
-    #[test]
-    fn blobs_are_as_long_as_the_number_before_them(rt: HostRuntime) {
-        let heap: &[u8] = &[0x07, 0x02, 0x61, 0x62, 0x80, 0x01, 0x63, 0xE0, 0x02, 0x64];
-        let rows: [(u32, Option<&[u8]>); 9] = [
-            (0, Some(b"")),
-            (1, Some(b"ab")),
-            (4, Some(b"c")),
-            (5, Some(b"c")),
-            (2, None),
-            (7, None),
-            (8, None),
-            (10, None),
-            (0xFFFF_FFFF, None),
-        ];
-        for (index, want) in rows {
-            assert_eq!(rt; blob_at(heap, index), want, "at {index}");
-        }
-        assert_eq!(rt;
-            blob_at(&[], 0),
-            Some(b"" as &[u8]),
-            "an empty heap has the empty blob"
-        );
-    }
-}

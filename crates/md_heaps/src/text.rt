@@ -31,32 +31,3 @@ pub fn string_at(heap: &[u8], index: u32) -> Option<&[u8]>
     }
     before_zero(from_index(heap, index))
 }
-
-#[cfg(test)]
-mod tests {
-    use super::*;
-
-    #[test]
-    fn texts_end_before_their_zero_byte(rt: HostRuntime) {
-        let heap: &[u8] = b"!<Module>\0small.dll\0\0cut";
-        let rows: [(u32, Option<&[u8]>); 8] = [
-            (0, Some(b"")),
-            (1, Some(b"<Module>")),
-            (8, Some(b">")),
-            (9, Some(b"")),
-            (10, Some(b"small.dll")),
-            (20, Some(b"")),
-            (21, None),
-            (24, None),
-        ];
-        for (index, want) in rows {
-            assert_eq!(rt; string_at(heap, index), want, "at {index}");
-        }
-        assert_eq!(rt;
-            string_at(&[], 0),
-            Some(b"" as &[u8]),
-            "an empty heap has the empty text"
-        );
-        assert_eq!(rt; string_at(&[], 1), None, "and no other");
-    }
-}
