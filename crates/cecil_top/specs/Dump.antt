@@ -2,7 +2,6 @@
 use Rattle.std.specs.Prelude.{◌≡◌, ℕ, List, [], ◌++◌, Option, Some, None, Result, Ok, Err, if◌then◌else◌}
 use Rattle.std.specs.List.{flat_map, range_with_len}
 use Rattle.pe_image.specs.Thin.{is_thin}
-use Rattle.pe_image.specs.declared.refusal.PeRefusal.TheVariants.{NotThin}
 use Rattle.node_model.specs.Keys.{rows}
 use Rattle.node_model.specs.Replies.{reply}
 use Rattle.node_model.specs.declared.query.Query.TheVariants.{Row}
@@ -29,5 +28,5 @@ thin_dump b = if is_thin b then Some (dump b) else None
 -- what making the dump of a file answers: its text, or that the file is not thin, but for want of memory
 abbrev pub Dumps : Result (List ℕ) OpenRefusal → List ℕ → Type 0
 Dumps (Ok text) b = thin_dump b ≡ Some text
-Dumps (Err (opens.Pe NotThin)) b = thin_dump b ≡ None
+Dumps (Err opens.NotThin) b = thin_dump b ≡ None
 Dumps (Err opens.NoMemory) b = Unit {0}

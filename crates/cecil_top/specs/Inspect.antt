@@ -3,7 +3,6 @@ use Rattle.std.specs.Prelude.{◌≡◌, ◌⊎◌, ℕ, ◌^◌, ◌++◌, List
 use Rattle.cil_outside.specs.Folder.{content_of}
 use Rattle.cil_outside.specs.declared.files.NamedFile.{NamedFile}
 use Rattle.pe_image.specs.Thin.{is_thin}
-use Rattle.pe_image.specs.declared.refusal.PeRefusal.TheVariants.{NotThin}
 use Rattle.cecil_top.specs.Dump.{dump}
 use Rattle.cecil_top.specs.declared.status.Status.{Status}
 use Rattle.cecil_top.specs.declared.status.Status.TheVariants as ends
@@ -15,7 +14,7 @@ abbrev pub status_for : Option (List ℕ) → List ℕ → Status
 status_for None name = ends.File name Missing
 status_for (Some b) name =
     if nat_lt (2 ^ 26) (length b) then ends.File name TooLong
-    else (if is_thin b then ends.Ok else ends.File name (Refused (opens.Pe NotThin)))
+    else (if is_thin b then ends.Ok else ends.File name (Refused opens.NotThin))
 
 -- the status of a run over the file of a name is the one that the file calls for, but for faults and want of memory;
 -- where the folder does not tell its files, a status that names a file names this one, and not for want of memory

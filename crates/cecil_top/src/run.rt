@@ -10,7 +10,6 @@ use crate::words::file_name;
 use cil_base::{Bytes, List, NoMemory};
 use cil_outside::{Folder, Got, Outlet, Sent};
 use node_read::OpenRefusal;
-use pe_image::PeRefusal;
 use std::alloc::Global;
 
 /// The greatest length of a file that is read, in bytes.
@@ -43,10 +42,10 @@ fn prepare<F: Folder>(alloc: Global, folder: &mut F, name: &str) -> Result<Bytes
     };
     match dump(alloc, bytes.into_vec()) {
         Ok(text) => Ok(text),
-        Err(OpenRefusal::Pe(PeRefusal::NotThin)) => Err(refusal(
+        Err(OpenRefusal::NotThin) => Err(refusal(
             alloc,
             name,
-            FileCause::Refused(OpenRefusal::Pe(PeRefusal::NotThin)),
+            FileCause::Refused(OpenRefusal::NotThin),
         )),
         Err(OpenRefusal::NoMemory) => Err(Status::NoMemory),
     }

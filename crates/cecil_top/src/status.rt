@@ -3,7 +3,6 @@ ghost use Rattle.cecil_top.specs.Statuses.{number_of, status_text, file_text, ca
 
 use cil_base::{Bytes, List, NoMemory, escape};
 use node_read::OpenRefusal;
-use pe_image::PeRefusal;
 use std::alloc::Global;
 
 /// How a run of the program ended.
@@ -74,7 +73,7 @@ fn file_line(alloc: Global, name: &[u8], cause: &FileCause) -> Result<Bytes, NoM
     let said: &[u8] = match cause {
         FileCause::Missing => b": missing",
         FileCause::TooLong => b": too long",
-        FileCause::Refused(OpenRefusal::Pe(PeRefusal::NotThin)) => b": refused 14 NotThin",
+        FileCause::Refused(OpenRefusal::NotThin) => b": refused 14 NotThin",
         FileCause::Refused(OpenRefusal::NoMemory) => return List::from_slice(
             alloc,
             b"cecil: no memory",

@@ -6,7 +6,7 @@ use Rattle.std.proofs.lemmas.Bool.Decides.{leb_tells}
 use Rattle.std.proofs.Common.{inl, inr, ◌≢◌}
 use Rattle.std.proofs.Math.Bool.{and-false}
 use Rattle.node_read.proofs.Bits.{has_bit, no_other, thin_bit}
-use Rattle.pe_image.specs.Places.{u32_at, u64_at, first}
+use Rattle.pe_image.specs.Places.{u32_at, u64_at, first_refusal}
 use Rattle.pe_image.specs.Rows.{is_valid, rows_place, tables_before, row_count, rows_size, unsupported, has_rows, rows_conditions, heap_sizes, BadTables}
 use Rattle.pe_image.specs.Thin.{thin_width, has_thin_rows}
 use Rattle.node_read.specs.Rows.{Counts, fits, type_width}
@@ -54,7 +54,7 @@ unfolding rows_place tables_before row_count rows_size unsupported thin_width
 header-5 s e = record { supported = rw e refl; clear = rw e refl; place = rw e refl; modules = rw e refl; types = rw e refl; others = no_others s 5 e (lit< tt) refl; references = rw e refl; fields = rw e refl; methods = rw e refl; specs = rw e refl; counts = rw e refl; size = rw e (grind arith) }
 
 -- with a good header only the rows are left to look at
-pub last : (b : Bool) → (is_ok (first ((not b, BadTables) ∷ []) true) && (true && true)) ≡ b
+pub last : (b : Bool) → (is_ok (first_refusal ((not b, BadTables) ∷ []) true) && (true && true)) ≡ b
 last true = refl
 last false = refl
 
@@ -117,12 +117,12 @@ pub wide : (s : List ℕ) → heap_sizes s ≢ 0 → has_thin_rows s ≡ false
 unfolding has_thin_rows
 wide s h =
     let e : (heap_sizes s == 0) ≡ false = grind arith in
-    rw e (both_false (is_ok (first (rows_conditions (thin_width s) s) true)) (is_clear s))
+    rw e (both_false (is_ok (first_refusal (rows_conditions (thin_width s) s) true)) (is_clear s))
 
 -- another table
 pub unclear : (s : List ℕ) → is_clear s ≡ false → has_thin_rows s ≡ false
 unfolding has_thin_rows
-unclear s h = rw h (and-false (is_ok (first (rows_conditions (thin_width s) s) true)))
+unclear s h = rw h (and-false (is_ok (first_refusal (rows_conditions (thin_width s) s) true)))
 
 pub other : (s : List ℕ) → u64_at s 8 < 2 ^ 64 → u64_at s 8 ≢ 0 → u64_at s 8 ≢ 1 → u64_at s 8 ≢ 4 → u64_at s 8 ≢ 5 → has_thin_rows s ≡ false
 other s below a b c d =

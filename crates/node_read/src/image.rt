@@ -6,11 +6,11 @@ ghost use Rattle.node_model.specs.Entries.{parts};
 
 use crate::rows::{Rows, read_rows};
 use crate::streams::Streams;
-use pe_image::{Pe, PeFail, PeRefusal, StreamName};
+use pe_image::{Pe, PeFail, StreamName};
 use std::marker::Model;
 
 /// An image: a file that was opened, and never changes. Contracts see an image as its bytes.
-#[derive(Debug, Drop)]
+#[derive(Drop)]
 pub struct Image {
     file: Vec<u8>,
     pe: Pe,
@@ -31,8 +31,8 @@ impl Model for Image {
 /// Why a file is not opened.
 #[derive(Clone, Copy, Debug, PartialEq, Eq)]
 pub enum OpenRefusal {
-    /// The file is refused.
-    Pe(PeRefusal),
+    /// The file is no image with CLI metadata, or has another table than Module and TypeDef, or wide heaps.
+    NotThin,
     /// Memory was wanted and not found.
     NoMemory,
 }
@@ -47,11 +47,11 @@ impl Image {
         let alloc = *file.allocator();
         let pe = match Pe::open(alloc, file.as_slice()) {
             Ok(pe) => pe,
-            Err(PeFail::Refused(_)) => return Err(OpenRefusal::Pe(PeRefusal::NotThin)),
+            Err(PeFail::Refused(_)) => return Err(OpenRefusal::NotThin),
             Err(PeFail::NoMemory) => return Err(OpenRefusal::NoMemory),
         };
         let Some(rows) = read_rows(pe.stream(file.as_slice(), StreamName::Tables)) else {
-            return Err(OpenRefusal::Pe(PeRefusal::NotThin));
+            return Err(OpenRefusal::NotThin);
         };
         Ok(Image { file, pe, rows })
     }

@@ -82,6 +82,6 @@ fn the_first_bad_cell_is_the_fault(rt: HostRuntime) -> Result<(), Fail> {
     let mut file = small().to_vec(rt.alloc())?;
     put(&mut file, 0, &[0]);
     let refused = Image::open(file).err();
-    assert!(rt; refused == Some(OpenRefusal::Pe(pe_image::PeRefusal::NotThin)));
+    assert!(rt; refused == Some(OpenRefusal::NotThin));
     Ok(())
 }

@@ -1,8 +1,8 @@
 -- Values worked out by hand from the standard, so that a wrong number or place in a definition does not check.
 use Rattle.std.specs.Prelude.{◌≡◌, ℕ, true, List, [], ◌∷◌, ◌++◌, length, Some, Err, codes, refl}
-use Rattle.pe_image.specs.Places.{first, u32_at, u64_at}
-use Rattle.pe_image.specs.CliHeader.{token_of}
-use Rattle.pe_image.specs.Sections.{section_at, place_in}
+use Rattle.pe_image.specs.Places.{first_refusal, u32_at, u64_at}
+use Rattle.pe_image.specs.CliHeader.{stored_token}
+use Rattle.pe_image.specs.Sections.{section_header_at, raw_place_of}
 use Rattle.pe_image.specs.Streams.{name_length, header_width, stream_at}
 use Rattle.pe_image.specs.Rows.{table_numbers, tables_before, row_count, rows_place, rows_size, unsupported, has_rows, UnsupportedTable, BadHeapSizes, BadTables, rows_conditions}
 use Rattle.pe_image.specs.Thin.{thin_width, has_thin_rows}
@@ -12,18 +12,18 @@ pub u32-little : u32_at (0xff ∷ 0x42 ∷ 0x53 ∷ 0x4a ∷ 0x42 ∷ []) 1 ≡ 
 unfolding u32_at
 u32-little = refl
 
-pub token-of_a_method : token_of 0x06000001 ≡ record { table = 6; rid = 1 }
+pub token-of_a_method : stored_token 0x06000001 ≡ record { table = 6; rid = 1 }
 token-of_a_method = refl
 
 -- the section header of `.text`, from its virtual size on, after the eight bytes of the name
 abbrev header : List ℕ
 header = codes ".text..." ++ (0x18 ∷ 0x01 ∷ 0 ∷ 0 ∷ 0 ∷ 0x20 ∷ 0 ∷ 0 ∷ 0 ∷ 0x02 ∷ 0 ∷ 0 ∷ 0 ∷ 0x02 ∷ 0 ∷ 0 ∷ [])
 
-pub section-of_text : section_at header 0 ≡ record { virtual_address = 0x2000; raw_size = 0x200; raw_place = 0x200 }
-unfolding section_at u32_at
+pub section-of_text : section_header_at header 0 ≡ record { virtual_address = 0x2000; raw_size = 0x200; raw_place = 0x200 }
+unfolding section_header_at u32_at
 section-of_text = refl
 
-pub place-of_metadata : place_in 0x2048 (record { virtual_address = 0x2000; raw_size = 0x200; raw_place = 0x200 }) ≡ 0x248
+pub place-of_metadata : raw_place_of 0x2048 (record { virtual_address = 0x2000; raw_size = 0x200; raw_place = 0x200 }) ≡ 0x248
 place-of_metadata = refl
 
 -- the stream header of `#~`
@@ -53,14 +53,14 @@ pub small-is_thin : has_thin_rows (tables 0 0 1) ≡ true
 unfolding has_thin_rows rows_conditions has_rows rows_size rows_place unsupported row_count tables_before thin_width u32_at u64_at
 small-is_thin = refl
 
-pub table_48-is_none : first (rows_conditions (thin_width (tables 8 1 1)) (tables 8 1 1)) true ≡ Err (UnsupportedTable 48)
+pub table_48-is_none : first_refusal (rows_conditions (thin_width (tables 8 1 1)) (tables 8 1 1)) true ≡ Err (UnsupportedTable 48)
 unfolding rows_conditions unsupported u64_at
 table_48-is_none = refl
 
-pub heaps_8-are_none : first (rows_conditions (thin_width (tables 8 0 1)) (tables 8 0 1)) true ≡ Err (BadHeapSizes 8)
+pub heaps_8-are_none : first_refusal (rows_conditions (thin_width (tables 8 0 1)) (tables 8 0 1)) true ≡ Err (BadHeapSizes 8)
 unfolding rows_conditions unsupported u64_at
 heaps_8-are_none = refl
 
-pub rows-pass : first (rows_conditions (thin_width (tables 0 0 2)) (tables 0 0 2)) true ≡ Err BadTables
+pub rows-pass : first_refusal (rows_conditions (thin_width (tables 0 0 2)) (tables 0 0 2)) true ≡ Err BadTables
 unfolding rows_conditions has_rows rows_size rows_place unsupported row_count tables_before thin_width u32_at u64_at
 rows-pass = refl

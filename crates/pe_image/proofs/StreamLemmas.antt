@@ -4,7 +4,7 @@ use Rattle.std.specs.Prelude.{◌||◌, Option, Some}
 use Rattle.std.proofs.lemmas.Bool.Decides.{nat_tests}
 use Rattle.std.specs.List.{list_any}
 use Rattle.pe_image.specs.Places.{u16_at, u32_at}
-use Rattle.pe_image.specs.Streams.{bad_header, header_places, header_width, all_headers, stream_at, stream_list, stream_named, names}
+use Rattle.pe_image.specs.Streams.{bad_header, header_places, header_width, all_headers, stream_at, stream_list, stream_named, has_stream_name}
 use Rattle.pe_image.specs.declared.stream.StreamName.{StreamName}
 use Rattle.pe_image.specs.declared.stream.Stream.{Stream}
 
@@ -77,7 +77,7 @@ within_places : (m : List ℕ) (places : List ℕ) (name : StreamName) (s : Stre
 within_places m [] name s sound h = cc
 within_places m (p ∷ ps) name s sound h =
     let parts = both_false (bad_header m p) (list_any (bad_header m) ps) sound in
-    found_by m (stream_at m p) s (names name (stream_at m p).name) (stream_named (map (stream_at m) ps) name) (held m p parts.0) (within_places m ps name s parts.1) h
+    found_by m (stream_at m p) s (has_stream_name name (stream_at m p).name) (stream_named (map (stream_at m) ps) name) (held m p parts.0) (within_places m ps name s parts.1) h
 
 pub found-within : (m : List ℕ) (name : StreamName) (s : Stream) → list_any (bad_header m) (all_headers m) ≡ false → stream_named (stream_list m) name ≡ Some s → s.offset + s.size ≤ length m
 unfolding stream_list

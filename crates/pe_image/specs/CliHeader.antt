@@ -21,5 +21,5 @@ unfoldable pub has_native : List ℕ → Bool
 has_native cli = not ((u32_at cli 40 == 0) && (u32_at cli 48 == 0) && (u32_at cli 56 == 0) && (u32_at cli 64 == 0))
 
 -- a stored token: the table's number in the highest byte, the row's in the rest (II.22)
-abbrev pub token_of : ℕ → Token
-token_of number = record { table = number / 2 ^ 24; rid = number % 2 ^ 24 }
+abbrev pub stored_token : ℕ → Token
+stored_token number = record { table = number / 2 ^ 24; rid = number % 2 ^ 24 }

@@ -6,5 +6,6 @@ pub mod Metadata
 pub mod Streams
 pub mod Facts
 pub mod Layout
+pub mod inner
 pub mod Rows
 pub mod Thin

@@ -4,8 +4,8 @@ use Rattle.std.specs.List.{before_first}
 use Rattle.pe_image.specs.Places.{u32_at, stands}
 use Rattle.pe_image.specs.Sections.{place, bytes_from}
 use Rattle.pe_image.specs.CliHeader.{cli_header, metadata_rva, metadata_size}
-use Rattle.pe_image.specs.declared.refusal.LayoutRefusal.{LayoutRefusal}
-use Rattle.pe_image.specs.declared.refusal.LayoutRefusal.TheVariants.{BadCli, BadRoot}
+use Rattle.pe_image.specs.declared.refusal.PeRefusal.{PeRefusal}
+use Rattle.pe_image.specs.declared.refusal.PeRefusal.TheVariants.{BadCli, BadRoot}
 use Rattle.pe_image.specs.declared.metadata.Extent.{Extent}
 
 -- the bytes of the metadata: as many as its size says, from its RVA
@@ -29,7 +29,7 @@ abbrev pub version_text : List ℕ → List ℕ
 version_text m = before_first (λ c. c == 0) (slice_range m 16 (16 + version_length m))
 
 -- the refusals of the CLI header and of the root: the next two of an image
-unfoldable pub root_conditions : List ℕ → List (Bool × LayoutRefusal)
+unfoldable pub root_conditions : List ℕ → List (Bool × PeRefusal)
 root_conditions b =
     (nat_lt (length (cli_header b)) 72, BadCli)
     ∷ (not (not (nat_lt (length (bytes_from b (metadata_rva b))) (metadata_size b)) && has_root (metadata b)), BadRoot)

@@ -17,6 +17,6 @@ abbrev pub stands : List ℕ → ℕ → ℕ → Bool
 stands b place n = nat_le (place + n) (length b)
 
 -- the refusal of the first condition that holds, or the answer where none does
-abbrev pub first : {A E : Type 0} → List (Bool × E) → A → Result A E
-first [] answer = Ok answer
-first (c ∷ cs) answer = if c.0 then Err c.1 else first cs answer
+abbrev pub first_refusal : {A E : Type 0} → List (Bool × E) → A → Result A E
+first_refusal [] answer = Ok answer
+first_refusal (c ∷ cs) answer = if c.0 then Err c.1 else first_refusal cs answer

@@ -1,13 +1,11 @@
 -- The streams of the metadata: ECMA-335 II.24.2.2.
-use Rattle.std.specs.Prelude.{◌≡◌, Result, Ok, Err, ℕ, zero, suc, ◌+◌, ◌*◌, ◌/◌, Bool, true, false, List, [], ◌∷◌, map, take, length, min, nat_lt, ◌==◌, ◌||◌, not, codes, slice_range, Option, Some, None, find, if◌then◌else◌, is_none}
+use Rattle.std.specs.Prelude.{ℕ, zero, suc, ◌+◌, ◌*◌, ◌/◌, Bool, true, false, List, [], ◌∷◌, map, take, length, min, nat_lt, ◌==◌, ◌||◌, not, codes, slice_range, Option, Some, None, find, if◌then◌else◌, is_none}
 use Rattle.std.specs.List.{list_any, position_or_len}
 use Rattle.std.specs.Str.{bytes_eq}
-use Rattle.pe_image.specs.Places.{first, u16_at, u32_at, stands}
+use Rattle.pe_image.specs.Places.{u16_at, u32_at, stands}
 use Rattle.pe_image.specs.Metadata.{metadata, version_length}
-use Rattle.pe_image.specs.declared.refusal.LayoutRefusal.{LayoutRefusal}
-use Rattle.pe_image.specs.declared.refusal.LayoutRefusal.TheVariants.{BadStreams, NoTables}
-use Rattle.pe_image.specs.declared.refusal.Stop.{Stop}
-use Rattle.pe_image.specs.declared.refusal.Stop.TheVariants as stops
+use Rattle.pe_image.specs.declared.refusal.PeRefusal.{PeRefusal}
+use Rattle.pe_image.specs.declared.refusal.PeRefusal.TheVariants.{BadStreams, NoTables}
 use Rattle.pe_image.specs.declared.stream.Stream.{Stream}
 use Rattle.pe_image.specs.declared.stream.StreamName.{StreamName}
 use Rattle.pe_image.specs.declared.stream.StreamName.TheVariants.{Tables, Strings, UserStrings, Guids, Blobs}
@@ -46,8 +44,8 @@ unfoldable pub all_headers : List ℕ → List ℕ
 all_headers m = header_places m (20 + version_length m) (u16_at m (18 + version_length m))
 
 -- the stream that a name means
-abbrev pub meaning : List ℕ → Option StreamName
-meaning name =
+abbrev pub stream_meaning : List ℕ → Option StreamName
+stream_meaning name =
     if bytes_eq name (codes "#~") then Some Tables
     else (if bytes_eq name (codes "#Strings") then Some Strings
     else (if bytes_eq name (codes "#US") then Some UserStrings
@@ -55,7 +53,7 @@ meaning name =
     else (if bytes_eq name (codes "#Blob") then Some Blobs else None))))
 
 unfoldable pub stream_at : List ℕ → ℕ → Stream
-stream_at m place = record { name = meaning (name_bytes m place); offset = u32_at m place; size = u32_at m (place + 4) }
+stream_at m place = record { name = stream_meaning (name_bytes m place); offset = u32_at m place; size = u32_at m (place + 4) }
 
 unfoldable pub stream_list : List ℕ → List Stream
 stream_list m = map (stream_at m) (all_headers m)
@@ -68,13 +66,13 @@ same_name Guids Guids = true
 same_name Blobs Blobs = true
 same_name _ _ = false
 
-abbrev pub names : StreamName → Option StreamName → Bool
-names name None = false
-names name (Some other) = same_name name other
+abbrev pub has_stream_name : StreamName → Option StreamName → Bool
+has_stream_name name None = false
+has_stream_name name (Some other) = same_name name other
 
 -- the first stream of a name
 abbrev pub stream_named : List Stream → StreamName → Option Stream
-stream_named streams name = find (λ s. names name s.name) streams
+stream_named streams name = find (λ s. has_stream_name name s.name) streams
 
 abbrev pub stream_in : List ℕ → Option Stream → List ℕ
 stream_in m None = []
@@ -85,20 +83,8 @@ unfoldable pub stream : List ℕ → StreamName → List ℕ
 stream b name = stream_in (metadata b) (stream_named (stream_list (metadata b)) name)
 
 -- the refusals of the streams: the last two of an image
-unfoldable pub stream_conditions : List ℕ → List (Bool × LayoutRefusal)
+unfoldable pub stream_conditions : List ℕ → List (Bool × PeRefusal)
 stream_conditions m =
     (list_any (bad_header m) (all_headers m), BadStreams)
     ∷ (is_none (stream_named (stream_list m) Tables), NoTables)
     ∷ []
-
--- what reading all headers answers, but for want of memory
-abbrev pub Lists : Result (List Stream) Stop → List ℕ → Type 0
-Lists (Ok streams) m = (list_any (bad_header m) (all_headers m) ≡ false) × (streams ≡ stream_list m)
-Lists (Err stops.NoMemory) m = Unit {0}
-Lists (Err (stops.Refused refusal)) m = (list_any (bad_header m) (all_headers m) ≡ true) × (refusal ≡ BadStreams)
-
--- the same, with the refusal where none of them is `#~`
-abbrev pub Finds : Result (List Stream) Stop → List ℕ → Type 0
-Finds (Ok streams) m = first (stream_conditions m) (stream_list m) ≡ Ok streams
-Finds (Err stops.NoMemory) m = Unit {0}
-Finds (Err (stops.Refused refusal)) m = first (stream_conditions m) (stream_list m) ≡ Err refusal

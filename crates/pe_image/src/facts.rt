@@ -1,18 +1,16 @@
 ghost use Rattle.std.specs.Prelude.{◌≡◌, ◌+◌, ◌≤◌, length, IfOk};
 ghost use Rattle.pe_image.specs.Headers.{headers_of};
-ghost use Rattle.pe_image.specs.CliHeader.{cli_header, has_native, token_of};
+ghost use Rattle.pe_image.specs.CliHeader.{cli_header, has_native, stored_token};
 ghost use Rattle.pe_image.specs.Metadata.{metadata, version_length};
 ghost use Rattle.pe_image.specs.Places.{u32_at};
-ghost use Rattle.pe_image.specs.Facts.{image_facts};
+ghost use Rattle.pe_image.specs.Facts.{image_base, image_facts};
 
 use crate::headers::Headers;
 use crate::metadata::version;
-use crate::number::{u16_at, u32_at};
+use crate::number::{u16_at, u32_at, u64_at};
+use crate::places::{cli, coff, optional};
 use cil_base::{Bytes, NoMemory, Token};
 use std::alloc::Global;
-
-/// The kind of an optional header with 64-bit addresses, PE32+.
-const PE32_PLUS: u16 = 523;
 
 /// What the headers say of an image as a whole (ECMA-335 II.25.2.2, II.25.2.3, II.25.3.3, II.24.2.1).
 #[derive(Debug, PartialEq, Eq, Drop)]
@@ -71,55 +69,70 @@ impl Facts {
 
 /// Whether a CLI header names native code or data.
 #[tactic(auto, unfolding(crate::specs::CliHeader::has_native))]
-fn is_native(cli: &[u8]) -> bool
-    requires { 72 ≤ length cli.now }
-    ensures { result ≡ has_native cli.now }
+fn is_native(header: &[u8]) -> bool
+    requires { 72 ≤ length header.now }
+    ensures { result ≡ has_native header.now }
 {
-    u32_at(cli, 40) != 0 || u32_at(cli, 48) != 0 || u32_at(cli, 56) != 0 || u32_at(cli, 64) != 0
+    u32_at(header, cli::CODE_MANAGER_TABLE) != 0
+        || u32_at(header, cli::VTABLE_FIXUPS) != 0
+        || u32_at(header, cli::EXPORT_ADDRESS_TABLE_JUMPS) != 0
+        || u32_at(header, cli::MANAGED_NATIVE_HEADER) != 0
 }
 
 /// The token of a CLI header: the table's number in the highest byte, the row's in the rest.
-fn entry_token(cli: &[u8]) -> Token
-    requires { 72 ≤ length cli.now }
-    ensures { result ≡ token_of (u32_at cli.now 20) }
+fn entry_token(header: &[u8]) -> Token
+    requires { 72 ≤ length header.now }
+    ensures { result ≡ stored_token (u32_at header.now 20) }
 {
-    let number = u32_at(cli, 20);
+    let number = u32_at(header, cli::ENTRY_POINT_TOKEN);
     let table = (number / 0x0100_0000) as u8;
     let rid = number % 0x0100_0000;
     Token { table, rid }
 }
 
+/// The address that the image is made for, in the optional header at a place.
+fn read_base(file: &[u8], place: usize, plus: bool) -> u64
+    requires { place + 96 ≤ length file.now }
+    ensures { result ≡ image_base plus file.now place }
+{
+    if plus {
+        u64_at(file, place + optional::IMAGE_BASE_PLUS)
+    } else {
+        u64::from(u32_at(file, place + optional::IMAGE_BASE))
+    }
+}
+
 /// The facts of an image, by its headers, the bytes of the CLI header and of the metadata.
-#[tactic(auto, unfolding(crate::specs::Facts::image_facts, crate::specs::Headers::magic))]
+#[tactic(auto, unfolding(crate::specs::Facts::image_facts))]
 pub(crate) fn read_facts(
     alloc: Global,
     file: &[u8],
     headers: Headers,
-    cli: &[u8],
+    header: &[u8],
     bytes: &[u8],
 ) -> Result<Facts, NoMemory>
     requires headers { headers ≡ headers_of file.now }
     requires optional { (headers.coff + 20 ≡ headers.optional) × (headers.optional + 96 ≤ length file.now) }
-    requires cli { (cli.now ≡ cli_header file.now) × (72 ≤ length cli.now) }
+    requires cli { (header.now ≡ cli_header file.now) × (72 ≤ length header.now) }
     requires bytes { (bytes.now ≡ metadata file.now) × (20 + version_length bytes.now ≤ length bytes.now) }
     ensures { IfOk result (λ facts. facts ≡ image_facts file.now) }
 {
     let coff = headers.coff;
-    let optional = headers.optional;
+    let place = headers.optional;
     let version = version(alloc, bytes)?;
     Ok(Facts {
-        plus: u16_at(file, optional) == PE32_PLUS,
-        machine: u16_at(file, coff),
-        time: u32_at(file, coff + 4),
-        characteristics: u16_at(file, coff + 18),
-        base: u64::from(u32_at(file, optional + 28)),
-        subsystem: u16_at(file, optional + 68),
-        dll: u16_at(file, optional + 70),
-        runtime_major: u16_at(cli, 4),
-        runtime_minor: u16_at(cli, 6),
-        flags: u32_at(cli, 16),
-        native: is_native(cli),
-        entry: entry_token(cli),
+        plus: headers.plus,
+        machine: u16_at(file, coff + coff::MACHINE),
+        time: u32_at(file, coff + coff::TIME_DATE_STAMP),
+        characteristics: u16_at(file, coff + coff::CHARACTERISTICS),
+        base: read_base(file, place, headers.plus),
+        subsystem: u16_at(file, place + optional::SUBSYSTEM),
+        dll: u16_at(file, place + optional::DLL_CHARACTERISTICS),
+        runtime_major: u16_at(header, cli::MAJOR_RUNTIME_VERSION),
+        runtime_minor: u16_at(header, cli::MINOR_RUNTIME_VERSION),
+        flags: u32_at(header, cli::FLAGS),
+        native: is_native(header),
+        entry: entry_token(header),
         version,
     })
 }

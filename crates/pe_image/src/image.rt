@@ -2,19 +2,19 @@ ghost use Rattle.std.specs.Prelude.{◌≡◌, ℕ, List};
 ghost use Rattle.pe_image.specs.Sections.{place, bytes_from};
 ghost use Rattle.pe_image.specs.Streams.{stream};
 ghost use Rattle.pe_image.specs.Facts.{image_facts};
-ghost use Rattle.pe_image.specs.Layout.{layout, Opens, Reads};
+ghost use Rattle.pe_image.specs.Layout.{pe_layout, OpensPe};
 
 use crate::facts::{Facts, read_facts};
 use crate::headers::read_headers;
 use crate::metadata::{Extent, metadata_bytes, read_root};
-use crate::refusal::{PeFail, PeRefusal, Stop};
+use crate::refusal::PeFail;
 use crate::section::{Section, bytes_of, place_of, read_sections};
 use crate::stream::{Stream, StreamName, read_streams, stream_with};
 use cil_base::List;
 use std::alloc::Global;
 
 /// An opened image. It keeps no bytes: the calls that read some are given the file again.
-#[derive(Debug, PartialEq, Eq, Drop)]
+#[derive(Drop)]
 pub struct Pe {
     sections: List<Section>,
     root: Extent,
@@ -23,21 +23,28 @@ pub struct Pe {
 }
 
 impl Pe {
-    /// Opens a file. `NotThin` is answered exactly where the file has no layout as an image with CLI metadata
-    /// (ECMA-335 II.24.2, II.25).
+    /// Opens a file: what its headers lay out, or the first refusal whose condition holds of it (ECMA-335 II.24.2, II.25).
     pub fn open(alloc: Global, file: &[u8]) -> Result<Pe, PeFail>
-        ensures { Opens result file.now }
+        ensures { OpensPe result file.now }
     {
-        match read_layout(alloc, file) {
-            Ok(pe) => Ok(pe),
-            Err(Stop::Refused(_)) => Err(PeFail::Refused(PeRefusal::NotThin)),
-            Err(Stop::NoMemory) => Err(PeFail::NoMemory),
-        }
+        let headers = read_headers(file)?;
+        let sections = read_sections(alloc, file, headers.sections, headers.count)?;
+        let cli = bytes_of(file, sections.as_slice(), headers.cli);
+        let root = read_root(file, sections.as_slice(), cli)?;
+        let bytes = metadata_bytes(file, root);
+        let streams = read_streams(alloc, bytes)?;
+        let facts = read_facts(alloc, file, headers, cli, bytes)?;
+        Ok(Pe {
+            sections,
+            root,
+            streams,
+            facts,
+        })
     }
 
     /// The place in the file of an RVA, in the first section that has it. None where no section has it.
     pub fn place(&self, rva: u32) -> Option<usize>
-        ensures { (b : List ℕ) → layout b ≡ Ok self.now → result ≡ place b rva }
+        ensures { (b : List ℕ) → pe_layout b ≡ Ok self.now → result ≡ place b rva }
     {
         place_of(self.sections.as_slice(), rva)
     }
@@ -45,7 +52,7 @@ impl Pe {
     /// The bytes of the file from an RVA to the end of its section's raw data or of the file, whichever comes first. Empty
     /// where no section has the RVA. `file` is the one that was opened.
     pub fn bytes_at<'a>(&self, file: &'a [u8], rva: u32) -> &'a [u8]
-        requires { layout file.now ≡ Ok self.now }
+        requires { pe_layout file.now ≡ Ok self.now }
         ensures { result.now ≡ bytes_from file.now rva }
     {
         bytes_of(file, self.sections.as_slice(), rva)
@@ -54,7 +61,7 @@ impl Pe {
     /// The bytes of a stream: of two with one name the first, and none where it is not there. `file` is the one that was
     /// opened.
     pub fn stream<'a>(&self, file: &'a [u8], name: StreamName) -> &'a [u8]
-        requires { layout file.now ≡ Ok self.now }
+        requires { pe_layout file.now ≡ Ok self.now }
         ensures { result.now ≡ stream file.now name }
     {
         let Some(found) = stream_with(self.streams.as_slice(), name) else {
@@ -67,27 +74,8 @@ impl Pe {
 
     /// What the headers say of the image as a whole.
     pub fn facts(&self) -> &Facts
-        ensures { (b : List ℕ) → layout b ≡ Ok self.now → result.now ≡ image_facts b }
+        ensures { (b : List ℕ) → pe_layout b ≡ Ok self.now → result.now ≡ image_facts b }
     {
         &self.facts
     }
-}
-
-/// What the headers lay out, or the first refusal.
-pub(crate) fn read_layout(alloc: Global, file: &[u8]) -> Result<Pe, Stop>
-    ensures { Reads result file.now }
-{
-    let headers = read_headers(file)?;
-    let sections = read_sections(alloc, file, headers.sections, headers.count)?;
-    let cli = bytes_of(file, sections.as_slice(), headers.cli);
-    let root = read_root(file, sections.as_slice(), cli)?;
-    let bytes = metadata_bytes(file, root);
-    let streams = read_streams(alloc, bytes)?;
-    let facts = read_facts(alloc, file, headers, cli, bytes)?;
-    Ok(Pe {
-        sections,
-        root,
-        streams,
-        facts,
-    })
 }

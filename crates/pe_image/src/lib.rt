@@ -1,4 +1,4 @@
-//! PE images: headers, sections, the CLI header, the root and the streams of the metadata, or that the file is refused
+//! PE images: headers, sections, the CLI header, the root and the streams of the metadata, or the first of ten refusals
 //! (ECMA-335 II.24.2.1, II.24.2.2, II.25). Every number in an image is little-endian.
 #![tactic(auto)]
 
@@ -7,6 +7,7 @@ mod headers;
 mod image;
 mod metadata;
 mod number;
+mod places;
 mod refusal;
 mod section;
 mod stream;
@@ -15,6 +16,3 @@ pub use facts::Facts;
 pub use image::Pe;
 pub use refusal::{PeFail, PeRefusal};
 pub use stream::StreamName;
-
-#[cfg(test)]
-mod tests;

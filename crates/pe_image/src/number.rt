@@ -1,6 +1,6 @@
 ghost use Rattle.std.specs.Prelude.{◌≡◌, ◌+◌, ◌≤◌, ◌==◌, length};
 ghost use Rattle.std.specs.List.{position_or_len};
-ghost use Rattle.pe_image.specs.Places.{u16_at, u32_at};
+ghost use Rattle.pe_image.specs.Places.{u16_at, u32_at, u64_at};
 
 use byteorder::{ByteOrder, LittleEndian};
 
@@ -20,6 +20,15 @@ pub(crate) fn u32_at(bytes: &[u8], place: usize) -> u32
     ensures { result ≡ u32_at bytes.now place }
 {
     LittleEndian::read_u32(&bytes[place..])
+}
+
+/// The number in the eight bytes from `place`.
+#[tactic(auto, unfolding(crate::specs::Places::u64_at))]
+pub(crate) fn u64_at(bytes: &[u8], place: usize) -> u64
+    requires { place + 8 ≤ length bytes.now }
+    ensures { result ≡ u64_at bytes.now place }
+{
+    LittleEndian::read_u64(&bytes[place..])
 }
 
 /// The place of the first zero byte, the length where there is none.

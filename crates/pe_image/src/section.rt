@@ -1,12 +1,13 @@
 ghost use Rattle.std.specs.Prelude.{◌≡◌, ◌+◌, ◌*◌, ◌≤◌, length, IfOk, option_map, option_copied};
-ghost use Rattle.pe_image.specs.Sections.{section_at, sections_at, section_of, has_rva, place_in, raw_end, bytes_in};
+ghost use Rattle.pe_image.specs.Sections.{section_header_at, section_headers_at, section_of, has_rva, raw_place_of, raw_end, bytes_in};
 
 use crate::number::u32_at;
+use crate::places::section_header;
 use cil_base::{List, NoMemory};
 use std::alloc::Global;
 
 /// Where a section is loaded, and where its bytes lie in the file.
-#[derive(Clone, Copy, Debug, PartialEq, Eq)]
+#[derive(Clone, Copy)]
 pub(crate) struct Section {
     /// The RVA of its first byte.
     pub virtual_address: u32,
@@ -28,7 +29,7 @@ impl Section {
     /// The place in the file of an RVA that the section has.
     pub(crate) fn place(&self, rva: u32) -> usize
         requires { self.now.virtual_address ≤ rva }
-        ensures { result ≡ place_in rva self.now }
+        ensures { result ≡ raw_place_of rva self.now }
     {
         (rva - self.virtual_address) as usize + self.raw_place as usize
     }
@@ -42,20 +43,20 @@ impl Section {
 }
 
 /// The section whose header stands at a place of the file.
-#[tactic(auto, unfolding(crate::specs::Sections::section_at))]
-fn section_header(file: &[u8], place: usize) -> Section
+#[tactic(auto, unfolding(crate::specs::Sections::section_header_at))]
+fn read_section(file: &[u8], place: usize) -> Section
     requires { place + 40 ≤ length file.now }
-    ensures { result ≡ section_at file.now place }
+    ensures { result ≡ section_header_at file.now place }
 {
     Section {
-        virtual_address: u32_at(file, place + 12),
-        raw_size: u32_at(file, place + 16),
-        raw_place: u32_at(file, place + 20),
+        virtual_address: u32_at(file, place + section_header::VIRTUAL_ADDRESS),
+        raw_size: u32_at(file, place + section_header::SIZE_OF_RAW_DATA),
+        raw_place: u32_at(file, place + section_header::POINTER_TO_RAW_DATA),
     }
 }
 
 /// The sections of `count` headers, one after the other from a place of the file.
-#[tactic(auto, unfolding(crate::specs::Sections::sections_at))]
+#[tactic(auto, unfolding(crate::specs::Sections::section_headers_at))]
 pub(crate) fn read_sections(
     alloc: Global,
     file: &[u8],
@@ -63,11 +64,11 @@ pub(crate) fn read_sections(
     count: u16,
 ) -> Result<List<Section>, NoMemory>
     requires { place + 40 * count ≤ length file.now }
-    ensures { IfOk result (λ sections. sections ≡ sections_at file.now place count) }
+    ensures { IfOk result (λ sections. sections ≡ section_headers_at file.now place count) }
 {
     let mut sections = List::new(alloc);
     for number in 0..usize::from(count) {
-        sections.push(section_header(file, place + 40 * number))?;
+        sections.push(read_section(file, place + section_header::SIZE * number))?;
     }
     Ok(sections)
 }
@@ -96,7 +97,7 @@ pub(crate) fn bytes_of<'a>(file: &'a [u8], sections: &[Section], rva: u32) -> &'
 
 /// The place in the file of an RVA, None where no section has it.
 pub(crate) fn place_of(sections: &[Section], rva: u32) -> Option<usize>
-    ensures { result ≡ option_map (place_in rva) (section_of sections.now rva) }
+    ensures { result ≡ option_map (raw_place_of rva) (section_of sections.now rva) }
 {
     let section = section_with(sections, rva)?;
     Some(section.place(rva))

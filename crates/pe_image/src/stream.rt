@@ -1,17 +1,16 @@
 ghost use Rattle.std.specs.Prelude.{◌≡◌, ◌+◌, ◌≤◌, length, true, false, IfSome, MatchOption, option_copied};
-ghost use Rattle.pe_image.specs.Streams.{Finds, Lists, bad_header, header_width, name_window, meaning, names, stream_at, stream_named};
+ghost use Rattle.pe_image.specs.Streams.{bad_header, has_stream_name, header_width, name_window, stream_at, stream_meaning, stream_named};
+ghost use Rattle.pe_image.specs.inner.Reading.{FindsStreams, ListsStreams};
 ghost use Rattle.pe_image.specs.Metadata.{version_length};
 
 use crate::number::{u16_at, u32_at, zero_place};
-use crate::refusal::{LayoutRefusal, Stop};
+use crate::places::{root, stream_header};
+use crate::refusal::{PeFail, PeRefusal};
 use cil_base::List;
 use std::alloc::Global;
 
-/// The longest name of a stream, with its zero byte.
-const NAME_WINDOW: usize = 32;
-
 /// The streams that metadata may have (ECMA-335 II.24.2.2).
-#[derive(Clone, Copy, Debug, PartialEq, Eq)]
+#[derive(Clone, Copy, PartialEq, Eq)]
 pub enum StreamName {
     /// `#~`, the tables.
     Tables,
@@ -26,7 +25,7 @@ pub enum StreamName {
 }
 
 /// A stream, by its header.
-#[derive(Clone, Copy, Debug, PartialEq, Eq)]
+#[derive(Clone, Copy)]
 pub(crate) struct Stream {
     /// None for a name that is none of the five.
     pub name: Option<StreamName>,
@@ -39,7 +38,7 @@ pub(crate) struct Stream {
 impl Stream {
     /// Whether the stream has a name.
     fn has(&self, name: StreamName) -> bool
-        ensures { result ≡ names name self.now.name }
+        ensures { result ≡ has_stream_name name self.now.name }
     {
         self.name == Some(name)
     }
@@ -47,7 +46,7 @@ impl Stream {
 
 /// The stream that a name means.
 fn meaning(name: &[u8]) -> Option<StreamName>
-    ensures { result ≡ meaning name.now }
+    ensures { result ≡ stream_meaning name.now }
 {
     if name == b"#~".as_slice() {
         return Some(StreamName::Tables);
@@ -72,8 +71,8 @@ fn window(bytes: &[u8], place: usize) -> &[u8]
     requires { place ≤ length bytes.now }
     ensures { result.now ≡ name_window bytes.now place }
 {
-    let start = place + 8;
-    let end = (start + NAME_WINDOW).min(bytes.len());
+    let start = place + stream_header::NAME;
+    let end = (start + stream_header::NAME_WINDOW).min(bytes.len());
     if end <= start {
         return &[];
     }
@@ -92,12 +91,12 @@ fn read_header(bytes: &[u8], place: usize) -> Option<(Stream, usize)>
 {
     let window = window(bytes, place);
     let name_length = zero_place(window);
-    let width = 8 + (name_length / 4 + 1) * 4;
+    let width = stream_header::NAME + (name_length / 4 + 1) * 4;
     if name_length == window.len() || bytes.len() < place + width {
         return None;
     }
-    let offset = u32_at(bytes, place);
-    let size = u32_at(bytes, place + 4);
+    let offset = u32_at(bytes, place + stream_header::OFFSET);
+    let size = u32_at(bytes, place + stream_header::SIZE);
     if bytes.len() < offset as usize + size as usize {
         return None;
     }
@@ -106,16 +105,16 @@ fn read_header(bytes: &[u8], place: usize) -> Option<(Stream, usize)>
 }
 
 /// The streams of all headers of the metadata, or BadStreams.
-fn list_streams(alloc: Global, bytes: &[u8]) -> Result<List<Stream>, Stop>
+fn list_streams(alloc: Global, bytes: &[u8]) -> Result<List<Stream>, PeFail>
     requires { 20 + version_length bytes.now ≤ length bytes.now }
-    ensures { Lists result bytes.now }
+    ensures { ListsStreams result bytes.now }
 {
-    let length = u32_at(bytes, 12) as usize;
-    let mut place = 20 + length;
+    let length = u32_at(bytes, root::LENGTH) as usize;
+    let mut place = root::SIZE + length;
     let mut streams = List::new(alloc);
-    for number in 0..u16_at(bytes, 18 + length) {
+    for number in 0..u16_at(bytes, root::STREAMS + length) {
         let Some((stream, width)) = read_header(bytes, place) else {
-            return Err(Stop::Refused(LayoutRefusal::BadStreams));
+            return Err(PeFail::Refused(PeRefusal::BadStreams));
         };
         streams.push(stream)?;
         place += width;
@@ -132,13 +131,13 @@ pub(crate) fn stream_with(streams: &[Stream], name: StreamName) -> Option<Stream
 
 /// The streams of the metadata, or the first of the refusals BadStreams and NoTables.
 #[tactic(auto, unfolding(crate::specs::Streams::stream_conditions))]
-pub(crate) fn read_streams(alloc: Global, bytes: &[u8]) -> Result<List<Stream>, Stop>
+pub(crate) fn read_streams(alloc: Global, bytes: &[u8]) -> Result<List<Stream>, PeFail>
     requires { 20 + version_length bytes.now ≤ length bytes.now }
-    ensures { Finds result bytes.now }
+    ensures { FindsStreams result bytes.now }
 {
     let streams = list_streams(alloc, bytes)?;
     if stream_with(streams.as_slice(), StreamName::Tables).is_none() {
-        return Err(Stop::Refused(LayoutRefusal::NoTables));
+        return Err(PeFail::Refused(PeRefusal::NoTables));
     }
     Ok(streams)
 }

@@ -2,7 +2,7 @@ use Rattle.std.proofs.Common.{◌≡◌, ◌+◌, ◌≤◌, ◌∙◌, ℕ, Lis
 use Rattle.std.specs.Prelude.{Option, Some, None, Ok, slice_range}
 use Rattle.pe_image.specs.Metadata.{metadata}
 use Rattle.pe_image.specs.Streams.{stream, stream_in, stream_list, stream_named}
-use Rattle.pe_image.specs.Layout.{layout}
+use Rattle.pe_image.specs.Layout.{pe_layout}
 use Rattle.pe_image.specs.declared.image.Pe.{Pe}
 use Rattle.pe_image.specs.declared.stream.Stream.{Stream}
 use Rattle.pe_image.specs.declared.stream.StreamName.{StreamName}
@@ -10,7 +10,7 @@ use Rattle.pe_image.proofs.LayoutLemmas.{opened}
 use Rattle.pe_image.proofs.StreamLemmas.{found-within}
 use Rattle.pe_image.proofs.image.Pe.stream.Goals as goal
 
-found_is : (b : List ℕ) (pe : Pe) (streams : List Stream) (name : StreamName) (r : Option Stream) → layout b ≡ Ok pe → streams ≡ pe.streams → r ≡ stream_named streams name → r ≡ stream_named (stream_list (metadata b)) name
+found_is : (b : List ℕ) (pe : Pe) (streams : List Stream) (name : StreamName) (r : Option Stream) → pe_layout b ≡ Ok pe → streams ≡ pe.streams → r ≡ stream_named streams name → r ≡ stream_named (stream_list (metadata b)) name
 found_is b pe streams name r h s e = e ∙ ap (λ xs. stream_named xs name) (s ∙ (opened b pe h).streams)
 
 pub metadata_bytes-bytes-requires : goal.metadata_bytes-bytes-requires
