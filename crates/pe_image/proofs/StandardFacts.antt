@@ -1,7 +1,6 @@
 -- Values worked out by hand from the standard, so that a wrong number or place in a definition does not check.
 use Rattle.std.specs.Prelude.{◌≡◌, ℕ, true, List, [], ◌∷◌, ◌++◌, length, Some, Err, codes, refl}
 use Rattle.pe_image.specs.Places.{first_refusal, u32_at, u64_at}
-use Rattle.pe_image.specs.CliHeader.{stored_token}
 use Rattle.pe_image.specs.Sections.{section_header_at, raw_place_of}
 use Rattle.pe_image.specs.Streams.{name_length, header_width, stream_at}
 use Rattle.pe_image.specs.Rows.{table_numbers, tables_before, row_count, rows_place, rows_size, unsupported, has_rows, UnsupportedTable, BadHeapSizes, BadTables, rows_conditions}
@@ -11,9 +10,6 @@ use Rattle.pe_image.specs.declared.stream.StreamName.TheVariants.{Tables}
 pub u32-little : u32_at (0xff ∷ 0x42 ∷ 0x53 ∷ 0x4a ∷ 0x42 ∷ []) 1 ≡ 0x424a5342
 unfolding u32_at
 u32-little = refl
-
-pub token-of_a_method : stored_token 0x06000001 ≡ record { table = 6; rid = 1 }
-token-of_a_method = refl
 
 -- the section header of `.text`, from its virtual size on, after the eight bytes of the name
 abbrev header : List ℕ

@@ -1,6 +1,5 @@
 -- The CLI header: ECMA-335 II.25.3.3.
-use Rattle.std.specs.Prelude.{ℕ, ◌/◌, ◌%◌, ◌^◌, Bool, List, ◌==◌, ◌&&◌, not}
-use Rattle.cil_base.specs.Token.{Token}
+use Rattle.std.specs.Prelude.{ℕ, Bool, List, ◌==◌, ◌&&◌, not}
 use Rattle.pe_image.specs.Places.{u32_at}
 use Rattle.pe_image.specs.Headers.{cli_rva}
 use Rattle.pe_image.specs.Sections.{bytes_from}
@@ -19,7 +18,3 @@ metadata_size b = u32_at (cli_header b) 12
 -- whether CodeManagerTable, VTableFixups, ExportAddressTableJumps or ManagedNativeHeader names an RVA
 unfoldable pub has_native : List ℕ → Bool
 has_native cli = not ((u32_at cli 40 == 0) && (u32_at cli 48 == 0) && (u32_at cli 56 == 0) && (u32_at cli 64 == 0))
-
--- a stored token: the table's number in the highest byte, the row's in the rest (II.22)
-abbrev pub stored_token : ℕ → Token
-stored_token number = record { table = number / 2 ^ 24; rid = number % 2 ^ 24 }

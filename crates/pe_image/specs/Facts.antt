@@ -1,8 +1,9 @@
 -- What the headers say of an image as a whole: ECMA-335 II.25.2.2, II.25.2.3, II.25.3.3, II.24.2.1.
 use Rattle.std.specs.Prelude.{ℕ, ◌+◌, Bool, List, if◌then◌else◌}
+use Rattle.cil_base.specs.Token.{token_from}
 use Rattle.pe_image.specs.Places.{u16_at, u32_at, u64_at}
 use Rattle.pe_image.specs.Headers.{coff_header, optional_header, is_plus}
-use Rattle.pe_image.specs.CliHeader.{cli_header, has_native, stored_token}
+use Rattle.pe_image.specs.CliHeader.{cli_header, has_native}
 use Rattle.pe_image.specs.Metadata.{metadata, version_text}
 use Rattle.pe_image.specs.declared.facts.Facts.{Facts}
 
@@ -24,6 +25,6 @@ image_facts b = record {
   runtime_minor = u16_at (cli_header b) 6;
   flags = u32_at (cli_header b) 16;
   native = has_native (cli_header b);
-  entry = stored_token (u32_at (cli_header b) 20);
+  entry = token_from (u32_at (cli_header b) 20);
   version = version_text (metadata b);
 }

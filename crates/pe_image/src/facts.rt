@@ -1,8 +1,7 @@
 ghost use Rattle.std.specs.Prelude.{◌≡◌, ◌+◌, ◌≤◌, length, IfOk};
 ghost use Rattle.pe_image.specs.Headers.{headers_of};
-ghost use Rattle.pe_image.specs.CliHeader.{cli_header, has_native, stored_token};
+ghost use Rattle.pe_image.specs.CliHeader.{cli_header, has_native};
 ghost use Rattle.pe_image.specs.Metadata.{metadata, version_length};
-ghost use Rattle.pe_image.specs.Places.{u32_at};
 ghost use Rattle.pe_image.specs.Facts.{image_base, image_facts};
 
 use crate::headers::Headers;
@@ -79,17 +78,6 @@ fn is_native(header: &[u8]) -> bool
         || u32_at(header, cli::MANAGED_NATIVE_HEADER) != 0
 }
 
-/// The token of a CLI header: the table's number in the highest byte, the row's in the rest.
-fn entry_token(header: &[u8]) -> Token
-    requires { 72 ≤ length header.now }
-    ensures { result ≡ stored_token (u32_at header.now 20) }
-{
-    let number = u32_at(header, cli::ENTRY_POINT_TOKEN);
-    let table = (number / 0x0100_0000) as u8;
-    let rid = number % 0x0100_0000;
-    Token { table, rid }
-}
-
 /// The address that the image is made for, in the optional header at a place.
 fn read_base(file: &[u8], place: usize, plus: bool) -> u64
     requires { place + 96 ≤ length file.now }
@@ -132,7 +120,7 @@ pub(crate) fn read_facts(
         runtime_minor: u16_at(header, cli::MINOR_RUNTIME_VERSION),
         flags: u32_at(header, cli::FLAGS),
         native: is_native(header),
-        entry: entry_token(header),
+        entry: Token::from_number(u32_at(header, cli::ENTRY_POINT_TOKEN)),
         version,
     })
 }
