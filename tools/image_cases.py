@@ -148,6 +148,9 @@ CASES = [
     ("open 258=22", facts(version='"\\"4.0.30319"')),
     ("open 262=4141", facts(version='"v4.0.30319AA"')),
     ("open 263=41", facts()),
+    # the RVA of the resources
+    ("resources", "0"),
+    ("resources 218=7856341299000000", "12345678"),
     # PE32+
     (f"open {WIDE}", plus()),
     (f"open {WIDE} 074=FFFFFFFF", plus(base="ffffffff80000000")),

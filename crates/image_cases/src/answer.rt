@@ -39,6 +39,7 @@ fn found(alloc: Global, pe: &Pe, case: &Case) -> Result<String, AllocError>
     let file = case.file.as_slice();
     match case.question {
         Question::Open => facts_text(alloc, pe.facts()),
+        Question::Resources => format!(in alloc; "{:x}", pe.resources()),
         Question::At(rva) => {
             let len = pe.bytes_at(file, rva).len();
             match pe.place(rva) {

@@ -5,6 +5,7 @@ use std::alloc::{AllocError, Global};
 #[derive(Clone, Copy)]
 pub(crate) enum Question {
     Open,
+    Resources,
     At(u32),
     Stream(StreamName),
 }
@@ -84,6 +85,9 @@ fn with_change(
 fn read_question(line: &str) -> Option<(Question, &str)> {
     if let Some(rest) = line.strip_prefix("open") {
         return Some((Question::Open, rest));
+    }
+    if let Some(rest) = line.strip_prefix("resources") {
+        return Some((Question::Resources, rest));
     }
     if let Some(rest) = line.strip_prefix("at ") {
         let (rva, rest) = rest.split_once(' ').unwrap_or((rest, ""));

@@ -1,5 +1,5 @@
 //! Opens images and says what it finds: a case a line on standard input, an answer a line on standard output. The first line has
-//! the bytes of an image in hex. A case is a question (`open`, `at RVA`, `stream NAME`) and changes of that image (`PLACE=BYTES`, or
+//! the bytes of an image in hex. A case is a question (`open`, `resources`, `at RVA`, `stream NAME`) and changes of that image (`PLACE=BYTES`, or
 //! `length=LENGTH`, which cuts it or adds zeros), all numbers in hex. The answer begins with the number of the case.
 #![tactic(auto)]
 

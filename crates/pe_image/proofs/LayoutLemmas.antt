@@ -5,7 +5,7 @@ use Rattle.std.specs.List.{list_any}
 use Rattle.pe_image.specs.Places.{first_refusal}
 use Rattle.pe_image.specs.Headers.{header_conditions, headers_of, cli_rva}
 use Rattle.pe_image.specs.Sections.{section_headers_at, section_list, section_of, bytes_in, bytes_from}
-use Rattle.pe_image.specs.CliHeader.{cli_header}
+use Rattle.pe_image.specs.CliHeader.{cli_header, resources_rva}
 use Rattle.pe_image.specs.Metadata.{metadata, metadata_extent, root_conditions}
 use Rattle.pe_image.specs.Streams.{bad_header, all_headers, stream_list, stream_named, stream_conditions}
 use Rattle.pe_image.specs.inner.Reading.{FindsStreams}
@@ -28,6 +28,7 @@ pub record Opened (b : List ℕ) (pe : Pe) : Type 0 where
   pub sections : pe.sections ≡ section_list b
   pub streams : pe.streams ≡ stream_list (metadata b)
   pub facts : pe.facts ≡ image_facts b
+  pub resources : pe.resources ≡ resources_rva b
   pub root : first_refusal (root_conditions b) (metadata_extent b) ≡ Ok pe.root
   pub sound : list_any (bad_header (metadata b)) (all_headers (metadata b)) ≡ false
 
@@ -48,6 +49,7 @@ opened b pe h =
       sections = ap (λ (p : Pe). p.sections) same;
       streams = ap (λ (p : Pe). p.streams) same;
       facts = ap (λ (p : Pe). p.facts) same;
+      resources = ap (λ (p : Pe). p.resources) same;
       root = root ∙ ap Ok (sym (ap (λ (p : Pe). p.root) same));
       sound = sound_streams m (laid_pe b) pe streams;
     }
@@ -89,10 +91,10 @@ pub streams-stopped : (b : List ℕ) (headers : Headers) (root : Extent) (s : Pe
 streams-stopped b headers root fails.NoMemory h r f = tt
 streams-stopped b headers root (fails.Refused e) h r f = streams-stop b headers root e h r f
 
-pub image-read : (b : List ℕ) (headers : Headers) (sections : List Section) (root : Extent) (streams : List Stream) (facts : Facts) → first_refusal (header_conditions b) (headers_of b) ≡ Ok headers → sections ≡ section_list b → first_refusal (root_conditions b) (metadata_extent b) ≡ Ok root → first_refusal (stream_conditions (metadata b)) (stream_list (metadata b)) ≡ Ok streams → facts ≡ image_facts b → pe_layout b ≡ Ok (record { sections = sections; root = root; streams = streams; facts = facts })
+pub image-read : (b : List ℕ) (headers : Headers) (sections : List Section) (root : Extent) (streams : List Stream) (facts : Facts) (resources : ℕ) → first_refusal (header_conditions b) (headers_of b) ≡ Ok headers → sections ≡ section_list b → first_refusal (root_conditions b) (metadata_extent b) ≡ Ok root → first_refusal (stream_conditions (metadata b)) (stream_list (metadata b)) ≡ Ok streams → facts ≡ image_facts b → resources ≡ resources_rva b → pe_layout b ≡ Ok (record { sections = sections; root = root; streams = streams; facts = facts; resources = resources })
 unfolding laid_pe
-image-read b headers sections root streams facts h s r t f =
+image-read b headers sections root streams facts resources h s r t f g =
     let is_root = first-ok (root_conditions b) (metadata_extent b) root r in
     let is_streams = first-ok (stream_conditions (metadata b)) (stream_list (metadata b)) streams t in
-    let same : laid_pe b ≡ record { sections = sections; root = root; streams = streams; facts = facts } = cc in
+    let same : laid_pe b ≡ record { sections = sections; root = root; streams = streams; facts = facts; resources = resources } = cc in
     laid-out b headers root streams h r t ∙ ap Ok same

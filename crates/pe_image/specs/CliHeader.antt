@@ -15,6 +15,10 @@ metadata_rva b = u32_at (cli_header b) 8
 abbrev pub metadata_size : List ℕ → ℕ
 metadata_size b = u32_at (cli_header b) 12
 
+-- the RVA of the resources, from which their offsets count
+unfoldable pub resources_rva : List ℕ → ℕ
+resources_rva b = u32_at (cli_header b) 24
+
 -- whether CodeManagerTable, VTableFixups, ExportAddressTableJumps or ManagedNativeHeader names an RVA
 unfoldable pub has_native : List ℕ → Bool
 has_native cli = not ((u32_at cli 40 == 0) && (u32_at cli 48 == 0) && (u32_at cli 56 == 0) && (u32_at cli 64 == 0))

@@ -3,6 +3,7 @@ use Rattle.std.specs.Prelude.{◌≡◌, ℕ, Bool, List, ◌++◌, Result, Ok, 
 use Rattle.pe_image.specs.Places.{first_refusal}
 use Rattle.pe_image.specs.Headers.{header_conditions}
 use Rattle.pe_image.specs.Sections.{section_list}
+use Rattle.pe_image.specs.CliHeader.{resources_rva}
 use Rattle.pe_image.specs.Metadata.{metadata, metadata_extent, root_conditions}
 use Rattle.pe_image.specs.Streams.{stream_list, stream_conditions}
 use Rattle.pe_image.specs.Facts.{image_facts}
@@ -21,6 +22,7 @@ laid_pe b = record {
   root = metadata_extent b;
   streams = stream_list (metadata b);
   facts = image_facts b;
+  resources = resources_rva b;
 }
 
 unfoldable pub pe_layout : List ℕ → Result Pe PeRefusal

@@ -1,6 +1,6 @@
 ghost use Rattle.std.specs.Prelude.{◌≡◌, ◌+◌, ◌≤◌, length, IfOk};
 ghost use Rattle.pe_image.specs.Headers.{headers_of};
-ghost use Rattle.pe_image.specs.CliHeader.{cli_header, has_native};
+ghost use Rattle.pe_image.specs.CliHeader.{cli_header, has_native, resources_rva};
 ghost use Rattle.pe_image.specs.Metadata.{metadata, version_length};
 ghost use Rattle.pe_image.specs.Facts.{image_base, image_facts};
 
@@ -76,6 +76,16 @@ fn is_native(header: &[u8]) -> bool
         || u32_at(header, cli::VTABLE_FIXUPS) != 0
         || u32_at(header, cli::EXPORT_ADDRESS_TABLE_JUMPS) != 0
         || u32_at(header, cli::MANAGED_NATIVE_HEADER) != 0
+}
+
+/// The RVA of the resources, by the bytes of the CLI header.
+#[tactic(auto, unfolding(crate::specs::CliHeader::resources_rva))]
+pub(crate) fn read_resources(file: &[u8], header: &[u8]) -> u32
+    requires cli { header.now ≡ cli_header file.now }
+    requires room { 72 ≤ length header.now }
+    ensures { result ≡ resources_rva file.now }
+{
+    u32_at(header, cli::RESOURCES)
 }
 
 /// The address that the image is made for, in the optional header at a place.

@@ -1,10 +1,11 @@
 ghost use Rattle.std.specs.Prelude.{◌≡◌, ℕ, List};
 ghost use Rattle.pe_image.specs.Sections.{place, bytes_from};
 ghost use Rattle.pe_image.specs.Streams.{stream};
+ghost use Rattle.pe_image.specs.CliHeader.{resources_rva};
 ghost use Rattle.pe_image.specs.Facts.{image_facts};
 ghost use Rattle.pe_image.specs.Layout.{pe_layout, OpensPe};
 
-use crate::facts::{Facts, read_facts};
+use crate::facts::{Facts, read_facts, read_resources};
 use crate::headers::read_headers;
 use crate::metadata::{Extent, metadata_bytes, read_root};
 use crate::refusal::PeFail;
@@ -20,6 +21,7 @@ pub struct Pe {
     root: Extent,
     streams: List<Stream>,
     facts: Facts,
+    resources: u32,
 }
 
 impl Pe {
@@ -34,11 +36,13 @@ impl Pe {
         let bytes = metadata_bytes(file, root);
         let streams = read_streams(alloc, bytes)?;
         let facts = read_facts(alloc, file, headers, cli, bytes)?;
+        let resources = read_resources(file, cli);
         Ok(Pe {
             sections,
             root,
             streams,
             facts,
+            resources,
         })
     }
 
@@ -70,6 +74,13 @@ impl Pe {
         let bytes = metadata_bytes(file, self.root);
         let start = found.offset as usize;
         &bytes[start..start + found.size as usize]
+    }
+
+    /// The RVA of the resources, from which their offsets count; 0 where there are none (ECMA-335 II.25.3.3).
+    pub fn resources(&self) -> u32
+        ensures { (b : List ℕ) → pe_layout b ≡ Ok self.now → result ≡ resources_rva b }
+    {
+        self.resources
     }
 
     /// What the headers say of the image as a whole.

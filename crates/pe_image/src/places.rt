@@ -87,6 +87,8 @@ pub(crate) mod cli {
 
     pub(crate) const ENTRY_POINT_TOKEN: usize = 20;
 
+    pub(crate) const RESOURCES: usize = 24;
+
     pub(crate) const CODE_MANAGER_TABLE: usize = 40;
 
     pub(crate) const VTABLE_FIXUPS: usize = 48;

@@ -58,6 +58,24 @@ read_facts-requires-clause-cli c =
     let P = λ (xs : List ℕ). 72 ≤ length xs in
     (cli, subst P (sym cli) (root-whole b (metadata_extent b) c.in_ok-root.root (sym c.in_ok-root.ensures)).cli)
 
+pub read_resources-resources-requires-clause-cli : goal.read_resources-resources-requires-clause-cli
+read_resources-resources-requires-clause-cli c =
+    let b = c.args.file.now in
+    let headers = c.in_ok-headers.headers in
+    let is_headers = first-ok (header_conditions b) (headers_of b) headers (sym c.in_ok-headers.ensures.read) in
+    let is_sections = sections-read b headers c.in_ok-sections.sections is_headers c.in_ok-sections.ensures in
+    c.bytes_of-cli.ensures ∙ cli-read b headers c.as_slice.result.now is_headers (c.as_slice.ensures ∙ is_sections)
+
+pub read_resources-resources-requires-clause-room : goal.read_resources-resources-requires-clause-room
+read_resources-resources-requires-clause-room c =
+    let b = c.args.file.now in
+    let headers = c.in_ok-headers.headers in
+    let is_headers = first-ok (header_conditions b) (headers_of b) headers (sym c.in_ok-headers.ensures.read) in
+    let is_sections = sections-read b headers c.in_ok-sections.sections is_headers c.in_ok-sections.ensures in
+    let cli = c.bytes_of-cli.ensures ∙ cli-read b headers c.as_slice.result.now is_headers (c.as_slice.ensures ∙ is_sections) in
+    let P = λ (xs : List ℕ). 72 ≤ length xs in
+    subst P (sym cli) (root-whole b (metadata_extent b) c.in_ok-root.root (sym c.in_ok-root.ensures)).cli
+
 pub returns : goal.returns
 returns c =
     let b = c.args.file.now in
@@ -66,4 +84,4 @@ returns c =
     let is_sections = sections-read b headers c.in_ok-sections.sections is_headers c.in_ok-sections.ensures in
     let P = λ (m : List ℕ). first_refusal (stream_conditions m) (stream_list m) ≡ Ok c.in_ok-streams.streams in
     let is_streams = subst P c.metadata_bytes-bytes.ensures.bytes c.in_ok-streams.ensures in
-    image-read b headers c.in_ok-sections.sections c.in_ok-root.root c.in_ok-streams.streams c.in_ok-facts.facts (sym c.in_ok-headers.ensures.read) is_sections (sym c.in_ok-root.ensures) is_streams c.in_ok-facts.ensures
+    image-read b headers c.in_ok-sections.sections c.in_ok-root.root c.in_ok-streams.streams c.in_ok-facts.facts c.read_resources-resources.result (sym c.in_ok-headers.ensures.read) is_sections (sym c.in_ok-root.ensures) is_streams c.in_ok-facts.ensures c.read_resources-resources.ensures
