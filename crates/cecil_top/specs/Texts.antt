@@ -4,8 +4,7 @@ use Rattle.std.specs.List.{flat_map, enumerate_from}
 use Rattle.std.specs.Fmt.{decimal}
 use Rattle.cil_base.specs.Escape.{escaped}
 use Rattle.cil_base.specs.Token.{token_text}
-use Rattle.uuid.specs.Text.{hyphenated_text, lower}
-use Rattle.uuid.specs.Parts.{swap_fields}
+use Rattle.asm_names.specs.Guid.{guid_text}
 use Rattle.node_model.specs.Columns.{columns, is_cell}
 use Rattle.node_model.specs.declared.cell.Cell.{Cell}
 use Rattle.node_model.specs.declared.cell.Cell.TheVariants as cells
@@ -20,10 +19,6 @@ use Rattle.node_model.specs.declared.slot.FaultKind.TheVariants as kinds
 
 abbrev pub quoted : List ℕ → List ℕ
 quoted text = 0x22 ∷ escaped text ++ 0x22 ∷ []
-
--- the first three fields of a stored GUID have their lowest byte first (ECMA-335 II.24.2.5), and are printed with the highest first
-abbrev pub guid_text : List ℕ → List ℕ
-guid_text bytes = hyphenated_text lower (swap_fields bytes)
 
 abbrev pub cell_text : Cell → List ℕ
 cell_text (cells.Num n) = decimal n

@@ -1,10 +1,11 @@
 ghost use Rattle.std.specs.Prelude.{◌≡◌, ◌++◌, OnOk};
 ghost use Rattle.std.specs.Fmt.{decimal};
-ghost use Rattle.cecil_top.specs.Texts.{cell_text, guid_text, quoted};
+ghost use Rattle.asm_names.specs.Guid.{guid_text};
+ghost use Rattle.cecil_top.specs.Texts.{cell_text, quoted};
 
+use asm_names::guid_text;
 use cil_base::{Bytes, NoMemory, escape};
 use node_model::Cell;
-use uuid::Uuid;
 
 /// Adds a number in decimal.
 pub(crate) fn add_decimal(text: &mut Bytes, number: u64) -> Result<(), NoMemory>
@@ -28,11 +29,8 @@ fn add_quoted(text: &mut Bytes, bytes: &[u8]) -> Result<(), NoMemory>
 fn add_guid(text: &mut Bytes, bytes: [u8; 16]) -> Result<(), NoMemory>
     ensures { OnOk result (text.new ≡ text.old ++ guid_text bytes) }
 {
-    let mut buffer = [0; 36];
-    let digits = Uuid::from_bytes_le(bytes)
-        .hyphenated()
-        .encode_lower(&mut buffer);
-    text.extend(digits.as_bytes())
+    let digits = guid_text(text.allocator(), bytes)?;
+    text.extend(digits.as_slice())
 }
 
 /// Adds what is printed of a cell.
