@@ -2,7 +2,9 @@
 use Rattle.std.proofs.Common.{◌≡◌, ℕ, List, [], ◌∷◌, Bool, true, Option, length, map, refl, sym, ap, ◌∙◌}
 use Rattle.std.specs.List.{list_all}
 use Rattle.cil_base.specs.inner.Reading.{compressed_at}
-use Rattle.sig_tree.specs.Symbols.{Symbol, Number, strip_symbols}
+use Rattle.sig_tree.specs.declared.symbol.Symbol.{Symbol}
+use Rattle.sig_tree.specs.declared.symbol.Symbol.TheVariants.{Number}
+use Rattle.sig_tree.specs.Symbols.{strip_symbols}
 use Rattle.sig_tree.specs.Spelling.{in_order, counted, type_symbols}
 use Rattle.sig_tree.specs.Fronts.{many_at, counted_at}
 use Rattle.sig_tree.specs.declared.tree.TypeSig.{TypeSig}

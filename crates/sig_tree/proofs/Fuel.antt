@@ -7,29 +7,27 @@ use Rattle.cil_base.specs.Signed.{strip_signed}
 use Rattle.cil_base.specs.inner.Reading.{compressed_at, signed_at}
 use Rattle.cil_base.proofs.NumberLemmas.{strip-compressed_at, none-compressed_at}
 use Rattle.cil_base.proofs.SignedLemmas.{strip-signed_at, signed_at-strip}
-use Rattle.sig_tree.specs.Fronts.{after, wrap, many_at, fronted}
-use Rattle.sig_tree.specs.Parsing.{type_at, level_at, fronted_params, params_at, begins, marked}
+use Rattle.sig_tree.specs.Fronts.{after_value, wrap, many_at}
+use Rattle.sig_tree.specs.inner.Found.{fronted}
+use Rattle.sig_tree.specs.Parsing.{type_sig_at, level_at, params_at, begins}
+use Rattle.sig_tree.specs.inner.Found.{fronted_params, marked}
 use Rattle.std.specs.Option.{option_map}
 use Rattle.sig_tree.specs.declared.tree.TypeSig.{TypeSig}
 use Rattle.sig_tree.specs.declared.tree.Sentinel.{Sentinel}
 use Rattle.sig_tree.proofs.Strips.{goes}
 
-pub type_at_suc : (d b : ℕ) (s : List ℕ) → type_at (suc d) (b ∷ s) ≡ level_at (type_at d) b s
-unfolding type_at
-type_at_suc d b s = refl
-
-pub type_at_front : (d b : ℕ) (s : List ℕ) → 0 < d → type_at d (b ∷ s) ≡ level_at (type_at (d - 1)) b s
-unfolding type_at
+pub type_at_front : (d b : ℕ) (s : List ℕ) → 0 < d → type_sig_at d (b ∷ s) ≡ level_at (type_sig_at (d - 1)) b s
+unfolding type_sig_at
 type_at_front zero b s h = absurd (omega arith)
 type_at_front (suc d) b s h = let e : suc d - 1 ≡ d = omega arith in rw e
 
-pub type_at_none : (d : ℕ) → type_at d [] ≡ None
-unfolding type_at
+pub type_at_none : (d : ℕ) → type_sig_at d [] ≡ None
+unfolding type_sig_at
 type_at_none zero = refl
 type_at_none (suc d) = refl
 
-pub type_at_zero : (s : List ℕ) → type_at 0 s ≡ None
-unfolding type_at
+pub type_at_zero : (s : List ℕ) → type_sig_at 0 s ≡ None
+unfolding type_sig_at
 type_at_zero s = refl
 
 -- the bytes after a front
@@ -66,13 +64,13 @@ fronted_more {A} before at n m x s r h e =
 pub fronted_none : {A : Type 0} (before : List A) (at : List ℕ → Option (A × List ℕ)) (n m : ℕ) (s : List ℕ) → at s ≡ None → n ≡ suc m → fronted before (many_at at n s) ≡ None
 fronted_none {A} before at n m s h e =
     ap (λ k. fronted before (many_at at k s)) e
-    ∙ ap (λ (o : Option (A × List ℕ)). fronted before (after {A = A} {B = List A × List ℕ} o (λ x r. wrap (λ xs. x ∷ xs) (many_at at m r)))) h
+    ∙ ap (λ (o : Option (A × List ℕ)). fronted before (after_value {A = A} {B = List A × List ℕ} o (λ x r. wrap (λ xs. x ∷ xs) (many_at at m r)))) h
 
-pub type_at_step : (d b : ℕ) (s r : List ℕ) → s ≡ b ∷ r → 0 < d → type_at d s ≡ level_at (type_at (d - 1)) b r
-type_at_step d b s r e h = ap (type_at d) e ∙ type_at_front d b r h
+pub type_at_step : (d b : ℕ) (s r : List ℕ) → s ≡ b ∷ r → 0 < d → type_sig_at d s ≡ level_at (type_sig_at (d - 1)) b r
+type_at_step d b s r e h = ap (type_sig_at d) e ∙ type_at_front d b r h
 
-pub type_at_empty : (d : ℕ) (s : List ℕ) → s ≡ [] → type_at d s ≡ None
-type_at_empty d s e = ap (type_at d) e ∙ type_at_none d
+pub type_at_empty : (d : ℕ) (s : List ℕ) → s ≡ [] → type_sig_at d s ≡ None
+type_at_empty d s e = ap (type_sig_at d) e ∙ type_at_none d
 
 -- one more parameter, none, and the rest after a sentinel
 abbrev Params : Type 0
@@ -89,15 +87,15 @@ pub params_more : (before : List TypeSig) (ty : List ℕ → Option (TypeSig × 
     → fronted_params before (params_at ty at n s) ≡ fronted_params (before ++ t ∷ []) (params_at ty (at + 1) m r)
 params_more before ty at n m t s r b h e =
     ap (λ k. fronted_params before (params_at ty at k s)) e
-    ∙ ap (λ (v : Bool). fronted_params before (cond {A = Option Params} v (marked at (many_at ty (suc m) (drop 1 s))) (after (ty s) (λ t r. option_map (taken t) (params_at ty (at + 1) m r))))) b
+    ∙ ap (λ (v : Bool). fronted_params before (cond {A = Option Params} v (marked at (many_at ty (suc m) (drop 1 s))) (after_value (ty s) (λ t r. option_map (taken t) (params_at ty (at + 1) m r))))) b
     ∙ ap (fronted_params before) (goes (ty s) (λ t r. option_map (taken t) (params_at ty (at + 1) m r)) t r h)
     ∙ moved before t (params_at ty (at + 1) m r)
 
 pub params_none : (before : List TypeSig) (ty : List ℕ → Option (TypeSig × List ℕ)) (at n m : ℕ) (s : List ℕ) → begins 0x41 s ≡ false → ty s ≡ None → n ≡ suc m → fronted_params before (params_at ty at n s) ≡ None
 params_none before ty at n m s b h e =
     ap (λ k. fronted_params before (params_at ty at k s)) e
-    ∙ ap (λ (v : Bool). fronted_params before (cond {A = Option Params} v (marked at (many_at ty (suc m) (drop 1 s))) (after (ty s) (λ t r. option_map (taken t) (params_at ty (at + 1) m r))))) b
-    ∙ ap (λ (o : Option (TypeSig × List ℕ)). fronted_params before (after {A = TypeSig} {B = Params} o (λ t r. option_map (taken t) (params_at ty (at + 1) m r)))) h
+    ∙ ap (λ (v : Bool). fronted_params before (cond {A = Option Params} v (marked at (many_at ty (suc m) (drop 1 s))) (after_value (ty s) (λ t r. option_map (taken t) (params_at ty (at + 1) m r))))) b
+    ∙ ap (λ (o : Option (TypeSig × List ℕ)). fronted_params before (after_value {A = TypeSig} {B = Params} o (λ t r. option_map (taken t) (params_at ty (at + 1) m r)))) h
 
 stood : (before : List TypeSig) (at : ℕ) (found : Option (List TypeSig × List ℕ)) → fronted_params before (marked at found) ≡ marked at (fronted before found)
 stood before at None = refl
@@ -107,7 +105,7 @@ pub params_marked : (before : List TypeSig) (ty : List ℕ → Option (TypeSig �
     → fronted_params before (params_at ty at n s) ≡ marked at (fronted before (many_at ty n r))
 params_marked before ty at n m s r b d e =
     ap (λ k. fronted_params before (params_at ty at k s)) e
-    ∙ ap (λ (v : Bool). fronted_params before (cond {A = Option Params} v (marked at (many_at ty (suc m) (drop 1 s))) (after (ty s) (λ t r. option_map (taken t) (params_at ty (at + 1) m r))))) b
+    ∙ ap (λ (v : Bool). fronted_params before (cond {A = Option Params} v (marked at (many_at ty (suc m) (drop 1 s))) (after_value (ty s) (λ t r. option_map (taken t) (params_at ty (at + 1) m r))))) b
     ∙ stood before at (many_at ty (suc m) (drop 1 s))
     ∙ ap (λ k. marked at (fronted before (many_at ty k (drop 1 s)))) (sym e)
     ∙ ap (λ q. marked at (fronted before (many_at ty n q))) (sym d)

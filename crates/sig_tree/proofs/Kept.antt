@@ -3,10 +3,12 @@ use Rattle.std.proofs.Common.{◌≡◌, ℕ, suc, zero, List, [], ◌∷◌, �
 use Rattle.std.specs.List.{list_all}
 use Rattle.std.proofs.lemmas.List.Folds.{list_all-map, list_all-append}
 use Rattle.cil_base.specs.Token.{Token}
-use Rattle.sig_tree.specs.Symbols.{Symbol, Byte, Number, Signed, TypeToken, can_be_spelled}
+use Rattle.sig_tree.specs.declared.symbol.Symbol.{Symbol}
+use Rattle.sig_tree.specs.declared.symbol.Symbol.TheVariants.{Byte, Number, Signed, TypeToken}
+use Rattle.sig_tree.specs.Symbols.{can_be_spelled}
 use Rattle.sig_tree.specs.Spelling.{counted, arity_symbols, method_symbols, type_symbols, all_symbols}
-use Rattle.sig_tree.specs.Bounds.{is_kind, has_place, type_fits, method_fits, all_fit, Bounded, depth_limit}
-use Rattle.sig_tree.specs.Replaced.{next, type_taking, method_taking, type_with, method_with, types_with, replaced}
+use Rattle.sig_tree.specs.Bounds.{is_kind, has_place, type_fits, method_fits, all_fit, IsBoundedSig, depth_limit}
+use Rattle.sig_tree.specs.Replaced.{next, type_taking, method_taking, type_with, method_with, types_with, replaced, names_type}
 use Rattle.sig_tree.specs.declared.tree.TypeSig.{TypeSig}
 use Rattle.sig_tree.specs.declared.tree.TypeSig.TheVariants.{Prim, Ptr, ByRef, Value, Class, Var, MVar, SzArray, Array, Inst, FnPtr, Mod, Pinned}
 use Rattle.sig_tree.specs.declared.tree.TypeSig.TheOpen.{TypeSig-F}
@@ -15,7 +17,7 @@ use Rattle.sig_tree.specs.declared.tree.TypeSig.TheFolds.{fold-roll-TypeSig, fol
 use Rattle.sig_tree.specs.declared.tree.MethodSig.{MethodSig}
 use Rattle.sig_tree.specs.declared.tree.SigTree.{SigTree}
 use Rattle.sig_tree.specs.declared.tree.SigTree.TheVariants.{Method, Field, Locals, Property, Inst as MethodInst, Plain}
-use Rattle.sig_tree.proofs.Rows.{method_spellable}
+use Rattle.sig_tree.proofs.Rows.{method_spellable, token_spelled}
 use Rattle.sig_tree.proofs.Strips.{both, and}
 use Rattle.sig_tree.proofs.Methods.{fits-is}
 use Rattle.sig_tree.proofs.Rolls.{row-of, fit-of, row-Inst, fits_zero}
@@ -23,6 +25,13 @@ use Rattle.sig_tree.proofs.Rolls.{row-of, fit-of, row-Inst, fits_zero}
 -- tokens that can be spelled
 abbrev pub Known : List Token → Type 0
 Known ts = list_all can_be_spelled (map TypeToken ts) ≡ true
+
+-- tokens that a signature can name can be spelled
+pub known_tokens : (ts : List Token) → list_all names_type ts ≡ true → Known ts
+known_tokens [] h = refl
+known_tokens (t ∷ ts) h =
+    let p = both (names_type t) (list_all names_type ts) h in
+    and (can_be_spelled (TypeToken t)) (list_all can_be_spelled (map TypeToken ts)) (token_spelled t ∙ p.0) (known_tokens ts p.1)
 
 known_next : (of : Token) (ts : List Token) → Known ts → can_be_spelled (TypeToken of) ≡ true → can_be_spelled (TypeToken (next of ts)) ≡ true
 known_next of [] h k = k
@@ -183,10 +192,10 @@ mod_kept d required of u kept = λ ts h k.
     })
 
 -- the symbols of an array's shape
-abbrev shape : ℕ → List ℕ → List ℤ → List Symbol
+abbrev pub shape : ℕ → List ℕ → List ℤ → List Symbol
 shape rank sizes lows = Number rank ∷ (counted (map Number sizes) ++ counted (map Signed lows))
 
-spelled-Array : (elem : TypeSig) (rank : ℕ) (sizes : List ℕ) (lows : List ℤ)
+pub spelled-Array : (elem : TypeSig) (rank : ℕ) (sizes : List ℕ) (lows : List ℤ)
     → list_all can_be_spelled (type_symbols (Array elem rank sizes lows)) ≡ (list_all can_be_spelled (type_symbols elem) && list_all can_be_spelled (shape rank sizes lows))
 spelled-Array elem rank sizes lows =
     ap (list_all can_be_spelled) (row-of (TypeSig-F.Array elem rank sizes lows) (Array elem rank sizes lows) (rolls-Array elem rank sizes lows))
@@ -206,7 +215,7 @@ array_kept d elem rank sizes lows kept = λ ts h k.
       left = p.left;
     })
 
-spelled-Inst : (value : Bool) (of : Token) (args : List TypeSig)
+pub spelled-Inst : (value : Bool) (of : Token) (args : List TypeSig)
     → list_all can_be_spelled (type_symbols (Inst value of args)) ≡ (can_be_spelled (TypeToken of) && (can_be_spelled (Number (length args)) && list_all can_be_spelled (all_symbols args)))
 spelled-Inst value of args = ap (list_all can_be_spelled) (row-Inst value of args)
 
@@ -255,7 +264,7 @@ list_kept types ts h fit spell =
     let new = (types_with types ts).0 in
     (q.holds.fitting, and (can_be_spelled (Number (length new))) (list_all can_be_spelled (all_symbols new)) (ap (λ (n : ℕ). can_be_spelled (Number n)) q.count ∙ s.0) q.holds.spelling)
 
-property_kept : (this : Bool) (t : TypeSig) (params : List TypeSig) (ts : List Token) → Known ts → Bounded (Property this t params) → Bounded (replaced (Property this t params) ts)
+property_kept : (this : Bool) (t : TypeSig) (params : List TypeSig) (ts : List Token) → Known ts → IsBoundedSig (Property this t params) → IsBoundedSig (replaced (Property this t params) ts)
 property_kept this t params ts h k =
     let f = both (type_fits t depth_limit) (all_fit params depth_limit) k.fitting in
     let s = both (can_be_spelled (Number (length params))) (list_all can_be_spelled (type_symbols t ++ all_symbols params)) k.spellable in
@@ -271,7 +280,7 @@ property_kept this t params ts h k =
     }
 
 -- a signature in its bounds stays in them
-pub tree_kept : (sig : SigTree) (ts : List Token) → Known ts → Bounded sig → Bounded (replaced sig ts)
+pub tree_kept : (sig : SigTree) (ts : List Token) → Known ts → IsBoundedSig sig → IsBoundedSig (replaced sig ts)
 tree_kept (Method m) ts h k =
     let p = method_kept false depth_limit (type_kept depth_limit) m ts h (record { fitting = k.fitting; spelling = k.spellable }) in
     record { fitting = p.holds.fitting; spellable = p.holds.spelling }

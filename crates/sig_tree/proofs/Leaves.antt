@@ -6,8 +6,9 @@ use Rattle.cil_base.specs.Token.{Token}
 use Rattle.cil_base.specs.inner.Reading.{compressed_at, signed_at}
 use Rattle.cil_base.proofs.NumberLemmas.{strip-compressed_at, compressed_at-strip}
 use Rattle.cil_base.proofs.SignedLemmas.{strip-signed_at, signed_at-strip}
-use Rattle.sig_tree.specs.Symbols.{Number, Signed, TypeToken, strip_symbol, tag_of, coded_token}
-use Rattle.sig_tree.specs.Fronts.{table_of, token_of_number, type_token_at}
+use Rattle.sig_tree.specs.declared.symbol.Symbol.TheVariants.{Number, Signed, TypeToken}
+use Rattle.sig_tree.specs.Symbols.{strip_symbol, tag_of, coded_token}
+use Rattle.sig_tree.specs.Fronts.{table_of_tag, token_of_number, type_token_at}
 use Rattle.sig_tree.proofs.Strips.{Exact, split, same_some, none_some, came, one, first_of_row, goes}
 
 pub number_exact : Exact ℕ compressed_at (λ n. Number n ∷ []) (λ n. true)
@@ -32,7 +33,7 @@ pub mapped : {A B : Type 0} (f : A → B) (found : Option A) (b : B) → option_
 mapped {A} {B} f None b h = none_some {A = B} {P = Mapped A B f None b} b h
 mapped f (Some x) b h = record { value = x; first = refl; same = same_some (f x) b h }
 
-tag_table : (tag table : ℕ) → table_of tag ≡ Some table → tag_of table ≡ Some tag
+tag_table : (tag table : ℕ) → table_of_tag tag ≡ Some table → tag_of table ≡ Some tag
 tag_table tag table h =
     split {P = tag_of table ≡ Some tag} (eqb tag 0) (Some 2) (cond (eqb tag 1) (Some 1) (cond (eqb tag 2) (Some 0x1b) None)) (Some table) h
     (λ e f. subst (λ t. tag_of t ≡ Some tag) (same_some 2 table f) (ap Some (sym (eqb-true tag 0 e))))
@@ -45,7 +46,7 @@ tag_table tag table h =
 -- a tag is below 3, and names its table
 pub record Tagged (table tag : ℕ) : Type 0 where
   pub small : tag < 3
-  pub names : table_of tag ≡ Some table
+  pub names : table_of_tag tag ≡ Some table
 
 pub table_tag : (table tag : ℕ) → tag_of table ≡ Some tag → Tagged table tag
 table_tag table tag h =
@@ -63,9 +64,9 @@ made rid table = record { table = table; rid = rid }
 token_there : (n : ℕ) (t : Token) → token_of_number n ≡ Some t → coded_token t ≡ Some n
 unfolding made
 token_there n t h =
-    split {P = coded_token t ≡ Some n} (ltb (n / 4) (2 ^ 24)) (option_map (made (n / 4)) (table_of (n % 4))) None (Some t) h
+    split {P = coded_token t ≡ Some n} (ltb (n / 4) (2 ^ 24)) (option_map (made (n / 4)) (table_of_tag (n % 4))) None (Some t) h
     (λ e f.
-    let m = mapped (made (n / 4)) (table_of (n % 4)) t f in
+    let m = mapped (made (n / 4)) (table_of_tag (n % 4)) t f in
     let back : n / 4 * 4 + n % 4 ≡ n = omega arith in
     subst (λ t. coded_token t ≡ Some n) m.same
     (ap (λ (b : Bool). cond {A = Option ℕ} b (option_map (λ (tag : ℕ). n / 4 * 4 + tag) (tag_of m.value)) None) e
@@ -84,9 +85,9 @@ token_coded t n h =
     let same : t.rid * 4 + m.value ≡ n = m.same in
     let row : n / 4 ≡ t.rid = omega arith in
     let tag : n % 4 ≡ m.value = omega arith in
-    ap (λ (q : ℕ). cond {A = Option Token} (ltb q (2 ^ 24)) (option_map (made q) (table_of (n % 4))) None) row
-    ∙ ap (λ (b : Bool). cond {A = Option Token} b (option_map (made t.rid) (table_of (n % 4))) None) e
-    ∙ ap (λ (k : ℕ). option_map (made t.rid) (table_of k)) tag
+    ap (λ (q : ℕ). cond {A = Option Token} (ltb q (2 ^ 24)) (option_map (made q) (table_of_tag (n % 4))) None) row
+    ∙ ap (λ (b : Bool). cond {A = Option Token} b (option_map (made t.rid) (table_of_tag (n % 4))) None) e
+    ∙ ap (λ (k : ℕ). option_map (made t.rid) (table_of_tag k)) tag
     ∙ ap (option_map (made t.rid)) g.names)
     (λ e f. none_some {A = ℕ} {P = token_of_number n ≡ Some t} n f)
 

@@ -12,5 +12,8 @@ pub mod Levels
 pub mod Spellable
 pub mod Trees
 pub mod Kept
-pub mod Apart
 mod StandardFacts
+pub mod Keeps
+pub mod Names
+pub mod TokenRows
+pub mod Tokens

@@ -6,10 +6,11 @@ use Rattle.std.proofs.lemmas.Bool.{eqb-true, eq-eqb}
 use Rattle.std.proofs.lemmas.Bool.Decides.{nat_tests}
 use Rattle.std.proofs.lemmas.List.Folds.{list_all-map}
 use Rattle.cil_base.specs.inner.Reading.{compressed_at}
-use Rattle.sig_tree.specs.Symbols.{Byte, Number, strip_symbols}
+use Rattle.sig_tree.specs.declared.symbol.Symbol.TheVariants.{Byte, Number}
+use Rattle.sig_tree.specs.Symbols.{strip_symbols}
 use Rattle.sig_tree.specs.Spelling.{arity_symbols, generic_flag, flag, convention_byte, method_symbols, type_symbols}
 use Rattle.sig_tree.specs.Bounds.{is_kind, has_place, type_fits, method_fits, method_within, within_level}
-use Rattle.sig_tree.specs.Fronts.{after}
+use Rattle.sig_tree.specs.Fronts.{after_value}
 use Rattle.sig_tree.specs.Parsing.{has_bit, is_convention, arity_at, params_at, method_of, convention_at, method_at}
 use Rattle.sig_tree.specs.declared.tree.Arity.{Arity}
 use Rattle.sig_tree.specs.declared.tree.Arity.TheVariants.{Plain as not_generic, Generic}
@@ -18,15 +19,14 @@ use Rattle.sig_tree.specs.declared.tree.Sentinel.TheVariants.{None as no_sentine
 use Rattle.sig_tree.specs.declared.tree.TypeSig.{TypeSig}
 use Rattle.sig_tree.specs.declared.tree.MethodSig.{MethodSig}
 use Rattle.sig_tree.specs.declared.tree.TypeSig.TheFolds.{fold_out-MethodSig}
-use Rattle.sig_tree.proofs.Rows.{method_symbols-is, map_length}
+use Rattle.sig_tree.proofs.Rows.{method_row, map_length}
 use Rattle.sig_tree.proofs.Strips.{Exact, split, same_some, none_some, both, and, came, wrapped, goes, wraps, parts, follows, begin, begins_with}
 use Rattle.sig_tree.proofs.Leaves.{mapped, number_exact}
 use Rattle.sig_tree.proofs.Params.{Placed, rows, params_sound, params_full}
 
 -- the row of a method, by its fields
 pub row-is : (m : MethodSig) → method_symbols m ≡ Byte (convention_byte m.kind m.arity m.this m.explicit) ∷ (arity_symbols m.arity ++ (Number (length m.params) ∷ (type_symbols m.ret ++ rows m.sentinel 0 m.params)))
-row-is m = method_symbols-is m
-    ∙ ap (λ (n : ℕ). Byte (convention_byte m.kind m.arity m.this m.explicit) ∷ (arity_symbols m.arity ++ (Number n ∷ (type_symbols m.ret ++ rows m.sentinel 0 m.params)))) (map_length type_symbols m.params)
+row-is m = method_row m
 
 -- the bounds of a method, by its fields
 pub fits-is : (m : MethodSig) (pointer : Bool) (d : ℕ) → method_fits m pointer d ≡ (is_kind m.kind && type_fits m.ret d && list_all (λ t. type_fits t d) m.params && has_place pointer (length m.params) m.sentinel)
@@ -157,8 +157,8 @@ convention_sound ty d exact b m s r is h =
     let small = (both (ltb b 0x80) (is_kind (b % 0x10)) is).0 in
     let below : b < 0x80 = grind (arith, nat_tests) in
     let kind = (both (ltb b 0x80) (is_kind (b % 0x10)) is).1 in
-    let a = came (arity_at (has_bit 0x10 b) s) (λ arity r. after (compressed_at r) (λ n r. after (ty r) (λ ret r. option_map (ends b arity ret) (params_at ty 0 n r)))) (m, r) h in
-    let n = came (compressed_at a.rest) (λ n r. after (ty r) (λ ret r. option_map (ends b a.value ret) (params_at ty 0 n r))) (m, r) a.then in
+    let a = came (arity_at (has_bit 0x10 b) s) (λ arity r. after_value (compressed_at r) (λ n r. after_value (ty r) (λ ret r. option_map (ends b arity ret) (params_at ty 0 n r)))) (m, r) h in
+    let n = came (compressed_at a.rest) (λ n r. after_value (ty r) (λ ret r. option_map (ends b a.value ret) (params_at ty 0 n r))) (m, r) a.then in
     let t = came (ty n.rest) (λ ret r. option_map (ends b a.value ret) (params_at ty 0 n.value r)) (m, r) n.then in
     let x = mapped (ends b a.value t.value) (params_at ty 0 n.value t.rest) (m, r) t.then in
     let arity = arity_sound (has_bit 0x10 b) a.value s a.rest a.first in
@@ -216,8 +216,8 @@ method_full ty d exact free m s r h k =
     ∙ ap (λ (explicit : Bool). let x : MethodSig = record { kind = m.kind; this = m.this; explicit = explicit; arity = m.arity; ret = m.ret; params = m.params; sentinel = m.sentinel } in x) c.explicit_bit in
     ap (method_at ty) p1.front
     ∙ ap (λ (v : Bool). cond {A = Option (MethodSig × List ℕ)} v (convention_at ty b p1.rest) None) is
-    ∙ goes (arity_at (has_bit 0x10 b) p1.rest) (λ arity r. after (compressed_at r) (λ n r. after (ty r) (λ ret r. option_map (ends b arity ret) (params_at ty 0 n r)))) m.arity p2.rest first
-    ∙ goes (compressed_at p2.rest) (λ n r. after (ty r) (λ ret r. option_map (ends b m.arity ret) (params_at ty 0 n r))) (length m.params) p3.rest count
+    ∙ goes (arity_at (has_bit 0x10 b) p1.rest) (λ arity r. after_value (compressed_at r) (λ n r. after_value (ty r) (λ ret r. option_map (ends b arity ret) (params_at ty 0 n r)))) m.arity p2.rest first
+    ∙ goes (compressed_at p2.rest) (λ n r. after_value (ty r) (λ ret r. option_map (ends b m.arity ret) (params_at ty 0 n r))) (length m.params) p3.rest count
     ∙ goes (ty p3.rest) (λ ret r. option_map (ends b m.arity ret) (params_at ty 0 (length m.params) r)) m.ret p4.rest ret
     ∙ ap (option_map (ends b m.arity m.ret)) ps
     ∙ ap (λ (x : MethodSig). Some (x, r)) made

@@ -3,9 +3,11 @@ use Rattle.std.proofs.Common.{◌≡◌, ◌≢◌, ℕ, suc, zero, ◌+◌, ◌
 use Rattle.std.specs.Option.{option_map}
 use Rattle.std.specs.List.{list_all}
 use Rattle.std.proofs.lemmas.Bool.{eqb-true, eq-eqb}
-use Rattle.sig_tree.specs.Symbols.{Symbol, Byte, strip_symbols}
+use Rattle.sig_tree.specs.declared.symbol.Symbol.{Symbol}
+use Rattle.sig_tree.specs.declared.symbol.Symbol.TheVariants.{Byte}
+use Rattle.sig_tree.specs.Symbols.{strip_symbols}
 use Rattle.sig_tree.specs.Spelling.{in_order, sentinel_at, with_sentinel, type_symbols}
-use Rattle.sig_tree.specs.Fronts.{after, many_at}
+use Rattle.sig_tree.specs.Fronts.{after_value, many_at}
 use Rattle.sig_tree.specs.Parsing.{begins, params_at}
 use Rattle.sig_tree.specs.declared.tree.Sentinel.{Sentinel}
 use Rattle.sig_tree.specs.declared.tree.Sentinel.TheVariants.{None as no_sentinel, Before}
@@ -86,7 +88,7 @@ params_sound ty test exact zero at ts sentinel s r h =
 params_sound ty test exact (suc n) at ts sentinel s r h =
     split {P = ParamsFound test (suc n) at ts sentinel s r} (begins 0x41 s)
     (option_map (λ (x : List TypeSig × List ℕ). (x.0, Before at, x.1)) (many_at ty (suc n) (drop 1 s)))
-    (after (ty s) (λ t r. option_map (λ (x : List TypeSig × Sentinel × List ℕ). (t ∷ x.0, x.1, x.2)) (params_at ty (at + 1) n r)))
+    (after_value (ty s) (λ t r. option_map (λ (x : List TypeSig × Sentinel × List ℕ). (t ∷ x.0, x.1, x.2)) (params_at ty (at + 1) n r)))
     (Some (ts, sentinel, r)) h
     (λ b f.
     let m = mapped (λ (x : List TypeSig × List ℕ). (x.0, Before at, x.1)) (many_at ty (suc n) (drop 1 s)) (ts, sentinel, r) f in
@@ -133,7 +135,7 @@ later_full ty test exact free t ts at sentinel s r h k place next =
     let p = parts (type_symbols t) (rows sentinel (at + 1) ts) s r (sym (ap (λ xs. strip_symbols xs s) (later_rows sentinel at (length ts) t ts place)) ∙ h) in
     let q = both (test t) (list_all test ts) k in
     let first = exact.full t s p.rest p.before q.0 in
-    ap (λ (b : Bool). cond {A = Option Found} b (option_map (stood at) (many_at ty (suc (length ts)) (drop 1 s))) (after (ty s) (λ t r. option_map (in_front t) (params_at ty (at + 1) (length ts) r)))) (begins_none ty free t s p.rest first)
+    ap (λ (b : Bool). cond {A = Option Found} b (option_map (stood at) (many_at ty (suc (length ts)) (drop 1 s))) (after_value (ty s) (λ t r. option_map (in_front t) (params_at ty (at + 1) (length ts) r)))) (begins_none ty free t s p.rest first)
     ∙ goes (ty s) (λ t r. option_map (in_front t) (params_at ty (at + 1) (length ts) r)) t p.rest first
     ∙ ap (option_map (in_front t)) (next p.rest p.then)
 
@@ -160,8 +162,8 @@ choose_full ty test exact free t ts at j s r h k place next =
           let low : at ≤ j = place.0 in
           let high : j < at + suc (length ts) = place.1 in
           let other : j ≢ at = λ same. let v = eq-eqb j at same in absurd cc in
-          let after : Placed (at + 1) (length ts) (Before j) = (omega arith, omega arith) in
-          later_full ty test exact free t ts at (Before j) s r h k after (next after)
+          let after_value : Placed (at + 1) (length ts) (Before j) = (omega arith, omega arith) in
+          later_full ty test exact free t ts at (Before j) s r h k after_value (next after_value)
     ] refl
 
 pub params_full : (ty : List ℕ → Option (TypeSig × List ℕ)) (test : TypeSig → Bool) → Exact TypeSig ty type_symbols test → ((s : List ℕ) → ty (0x41 ∷ s) ≡ None)
@@ -174,4 +176,4 @@ params_full ty test exact free (t ∷ ts) at no_sentinel s r h k place =
     (λ m g. params_full ty test exact free ts (at + 1) no_sentinel m r g (both (test t) (list_all test ts) k).1 tt)
 params_full ty test exact free (t ∷ ts) at (Before j) s r h k place =
     choose_full ty test exact free t ts at j s r h k place
-    (λ after m g. params_full ty test exact free ts (at + 1) (Before j) m r g (both (test t) (list_all test ts) k).1 after)
+    (λ after_value m g. params_full ty test exact free ts (at + 1) (Before j) m r g (both (test t) (list_all test ts) k).1 after_value)

@@ -4,7 +4,8 @@ use Rattle.std.specs.List.{list_all}
 use Rattle.std.proofs.lemmas.Bool.Decides.{nat_tests}
 use Rattle.std.proofs.lemmas.List.Folds.{list_all-map}
 use Rattle.cil_base.specs.Token.{Token}
-use Rattle.sig_tree.specs.Symbols.{Symbol, Byte, Number, TypeToken}
+use Rattle.sig_tree.specs.declared.symbol.Symbol.{Symbol}
+use Rattle.sig_tree.specs.declared.symbol.Symbol.TheVariants.{Byte, Number, TypeToken}
 use Rattle.sig_tree.specs.Spelling.{in_order, type_level, method_level, method_symbols, type_symbols}
 use Rattle.sig_tree.specs.Bounds.{inside, within_level, method_within, type_fits, method_fits}
 use Rattle.sig_tree.specs.declared.tree.TypeSig.{TypeSig}

@@ -1,10 +1,15 @@
 -- Facts about rows of symbols.
-use Rattle.std.proofs.Common.{◌≡◌, ℕ, suc, ◌+◌, List, [], ◌∷◌, ◌++◌, Bool, true, false, ◌&&◌, refl, ap, sym, ◌∙◌, if◌then◌else◌, length, map, unwrap_or}
-use Rattle.std.proofs.lemmas.Grind.{flat_map-append}
+use Rattle.std.proofs.Common.{◌≡◌, ℕ, suc, ◌+◌, List, [], ◌∷◌, ◌++◌, Bool, true, false, ◌&&◌, refl, ap, sym, ◌∙◌, if◌then◌else◌, length, map, Option, Some, None, is_some}
 use Rattle.std.specs.List.{list_all}
+use Rattle.std.specs.Option.{option_map}
+use Rattle.cil_base.specs.Token.{Token}
+use Rattle.cil_base.specs.Number.{spelled_number}
+use Rattle.sig_tree.specs.Replaced.{names_type}
 use Rattle.std.proofs.lemmas.List.Folds.{list_all-append}
 use Rattle.sig_tree.specs.declared.tree.TypeSig.TheOpen.{MethodSig-F}
-use Rattle.sig_tree.specs.Symbols.{Symbol, Byte, Number, can_be_spelled, spelled, spelling_of}
+use Rattle.sig_tree.specs.declared.symbol.Symbol.{Symbol}
+use Rattle.sig_tree.specs.declared.symbol.Symbol.TheVariants.{Byte, Number, TypeToken}
+use Rattle.sig_tree.specs.Symbols.{can_be_spelled, coded_token}
 use Rattle.sig_tree.specs.Spelling.{with_sentinel, sentinel_at, sentinel_stands, in_order, arity_symbols, convention_byte, type_symbols, method_symbols, all_symbols, type_level, method_level}
 use Rattle.sig_tree.specs.declared.tree.TypeSig.TheFolds.{fold_out-MethodSig}
 use Rattle.sig_tree.specs.declared.tree.MethodSig.{MethodSig}
@@ -12,6 +17,14 @@ use Rattle.sig_tree.specs.declared.tree.Sentinel.{Sentinel}
 
 pub list_all_append : {X : Type 0} (p : X → Bool) (xs ys : List X) → list_all p (xs ++ ys) ≡ (list_all p xs && list_all p ys)
 list_all_append p xs ys = list_all-append p xs ys
+
+mapped_some : {A B : Type 0} (f : A → B) (o : Option A) → is_some (option_map f o) ≡ is_some o
+mapped_some f None = refl
+mapped_some f (Some x) = refl
+
+-- a token can be spelled where a signature can name it
+pub token_spelled : (t : Token) → can_be_spelled (TypeToken t) ≡ names_type t
+token_spelled t = mapped_some spelled_number (coded_token t)
 
 -- whether each symbol of rows can be spelled
 abbrev pub all_spelled : List (List Symbol) → Bool
@@ -61,17 +74,8 @@ method_spellable m =
     ∙ level_spellable (record { kind = m.kind; this = m.this; explicit = m.explicit; arity = m.arity; ret = type_symbols m.ret; params = map type_symbols m.params; sentinel = m.sentinel })
     ∙ ap (λ n. list_all can_be_spelled (arity_symbols m.arity) && (can_be_spelled (Number n) && (list_all can_be_spelled (type_symbols m.ret) && list_all can_be_spelled (all_symbols m.params)))) (map_length type_symbols m.params)
 
-spelled-append : (xs ys : List Symbol) → spelled (xs ++ ys) ≡ spelled xs ++ spelled ys
-spelled-append xs ys = flat_map-append (λ x. unwrap_or (spelling_of x) []) xs ys
-
--- the bytes of a method, part by part
-pub spelled_method : (m : MethodSig) → spelled (method_symbols m) ≡ convention_byte m.kind m.arity m.this m.explicit ∷ (spelled (arity_symbols m.arity) ++ (spelled (Number (length m.params) ∷ [])
-    ++ (spelled (type_symbols m.ret) ++ spelled (in_order (with_sentinel m.sentinel (Byte 0x41 ∷ []) 0 (map type_symbols m.params))))))
-spelled_method m =
-    let first = convention_byte m.kind m.arity m.this m.explicit in
-    let params = in_order (with_sentinel m.sentinel (Byte 0x41 ∷ []) 0 (map type_symbols m.params)) in
-    ap spelled (method_symbols-is m)
-    ∙ ap (λ (n : ℕ). spelled (Byte first ∷ (arity_symbols m.arity ++ (Number n ∷ (type_symbols m.ret ++ params))))) (map_length type_symbols m.params)
-    ∙ ap (λ (t : List ℕ). first ∷ t) (spelled-append (arity_symbols m.arity) (Number (length m.params) ∷ (type_symbols m.ret ++ params))
-    ∙ ap (λ (t : List ℕ). spelled (arity_symbols m.arity) ++ t) (spelled-append (Number (length m.params) ∷ []) (type_symbols m.ret ++ params)
-    ∙ ap (λ (t : List ℕ). spelled (Number (length m.params) ∷ []) ++ t) (spelled-append (type_symbols m.ret) params)))
+-- the symbols of a method, part by part
+pub method_row : (m : MethodSig) → method_symbols m
+    ≡ Byte (convention_byte m.kind m.arity m.this m.explicit) ∷ (arity_symbols m.arity ++ (Number (length m.params) ∷ (type_symbols m.ret ++ in_order (with_sentinel m.sentinel (Byte 0x41 ∷ []) 0 (map type_symbols m.params)))))
+method_row m = method_symbols-is m
+    ∙ ap (λ (n : ℕ). Byte (convention_byte m.kind m.arity m.this m.explicit) ∷ (arity_symbols m.arity ++ (Number n ∷ (type_symbols m.ret ++ in_order (with_sentinel m.sentinel (Byte 0x41 ∷ []) 0 (map type_symbols m.params)))))) (map_length type_symbols m.params)

@@ -7,10 +7,12 @@ use Rattle.cil_base.specs.Token.{Token}
 use Rattle.cil_base.specs.Number.{strip_number, spelled_number}
 use Rattle.cil_base.specs.Signed.{is_within, strip_signed, spelled_signed}
 use Rattle.cil_base.proofs.NumberLemmas.{forms, below}
-use Rattle.sig_tree.specs.Symbols.{Symbol, Byte, Number, Signed, TypeToken, strip_symbol, strip_symbols, coded_token, can_be_spelled}
+use Rattle.sig_tree.specs.declared.symbol.Symbol.{Symbol}
+use Rattle.sig_tree.specs.declared.symbol.Symbol.TheVariants.{Byte, Number, Signed, TypeToken}
+use Rattle.sig_tree.specs.Symbols.{strip_symbol, strip_symbols, coded_token, can_be_spelled}
 use Rattle.sig_tree.specs.Spelling.{arity_symbols, type_symbols, method_symbols, all_symbols}
-use Rattle.sig_tree.specs.Bounds.{fits, depth_limit}
-use Rattle.sig_tree.specs.Parsing.{method_at, type_at}
+use Rattle.sig_tree.specs.Bounds.{depth_limit}
+use Rattle.sig_tree.specs.Parsing.{method_at, type_sig_at}
 use Rattle.sig_tree.specs.declared.tree.MethodSig.{MethodSig}
 use Rattle.sig_tree.proofs.Strips.{none_some, both, and, first_of_row}
 use Rattle.sig_tree.proofs.Rows.{method_spellable}
@@ -74,7 +76,7 @@ spelled_small n h = elim (ltb n (2 ^ 29)) as (λ v. ltb n (2 ^ 29) ≡ v → is_
 ] refl h
 
 -- the parameters of a method that was read are fewer than 2^29
-pub method_short : (m : MethodSig) (s r : List ℕ) → method_at (type_at 64) s ≡ Some (m, r) → length m.params < 2 ^ 29
+pub method_short : (m : MethodSig) (s r : List ℕ) → method_at (type_sig_at 64) s ≡ Some (m, r) → length m.params < 2 ^ 29
 method_short m s r h =
-    let p = method_sound (type_at depth_limit) depth_limit (type_exact depth_limit) m s r h in
+    let p = method_sound (type_sig_at depth_limit) depth_limit (type_exact depth_limit) m s r h in
     spelled_small (length m.params) (row_count m (strips_spellable (method_symbols m) s r p.strips))

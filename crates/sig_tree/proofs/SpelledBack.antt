@@ -7,7 +7,9 @@ use Rattle.cil_base.specs.Number.{strip_number, spelled_number}
 use Rattle.cil_base.specs.Signed.{is_within, strip_signed, spelled_signed}
 use Rattle.cil_base.proofs.NumberLemmas.{strip-spelled_number, below}
 use Rattle.cil_base.proofs.SignedLemmas.{strip-spelled_signed}
-use Rattle.sig_tree.specs.Symbols.{Symbol, Byte, Number, Signed, TypeToken, strip_symbol, strip_symbols, spelling_of, can_be_spelled, spelled, tag_of, coded_token}
+use Rattle.sig_tree.specs.declared.symbol.Symbol.{Symbol}
+use Rattle.sig_tree.specs.declared.symbol.Symbol.TheVariants.{Byte, Number, Signed, TypeToken}
+use Rattle.sig_tree.specs.Symbols.{strip_symbol, strip_symbols, spelling_of, can_be_spelled, spelled, tag_of, coded_token}
 use Rattle.sig_tree.proofs.Strips.{split, none_some, both, one, byte_strips}
 use Rattle.sig_tree.proofs.Leaves.{mapped, table_tag}
 

@@ -4,7 +4,9 @@ use Rattle.std.specs.List.{flat_map}
 use Rattle.cil_base.specs.Token.{Token}
 use Rattle.cil_base.specs.Number.{strip_number, spelled_number}
 use Rattle.cil_base.specs.Signed.{spelled_signed}
-use Rattle.sig_tree.specs.Symbols.{Symbol, Byte, Number, coded_token, spelling_of, spelled, strip_symbols}
+use Rattle.sig_tree.specs.declared.symbol.Symbol.{Symbol}
+use Rattle.sig_tree.specs.declared.symbol.Symbol.TheVariants.{Byte, Number}
+use Rattle.sig_tree.specs.Symbols.{coded_token, spelling_of, spelled, strip_symbols}
 use Rattle.sig_tree.specs.Spelling.{convention_byte, method_level, type_level, spell, strip}
 use Rattle.sig_tree.specs.Bounds.{is_prim, is_kind, has_place}
 use Rattle.sig_tree.specs.Printed.{type_pieces_level, piece_text, chars}

@@ -1,11 +1,13 @@
 -- Stripping rows of symbols, and reading one value after another.
-use Rattle.std.proofs.Common.{◌≡◌, ℕ, suc, zero, ◌+◌, List, [], ◌∷◌, ◌++◌, Bool, true, false, cond, ◌&&◌, eqb, Option, Some, None, length, map, refl, sym, ap, subst, ◌∙◌}
+use Rattle.std.proofs.Common.{◌≡◌, ℕ, suc, zero, List, [], ◌∷◌, ◌++◌, Bool, true, false, cond, ◌&&◌, eqb, Option, Some, None, length, map, refl, sym, ap, subst, ◌∙◌}
 use Rattle.std.specs.Option.{option_and_then}
 use Rattle.std.specs.List.{list_all}
 use Rattle.std.proofs.lemmas.Bool.{eqb-true, eq-eqb}
-use Rattle.sig_tree.specs.Symbols.{Symbol, Byte, strip_symbol, strip_symbols}
+use Rattle.sig_tree.specs.declared.symbol.Symbol.{Symbol}
+use Rattle.sig_tree.specs.declared.symbol.Symbol.TheVariants.{Byte}
+use Rattle.sig_tree.specs.Symbols.{strip_symbol, strip_symbols}
 use Rattle.sig_tree.specs.Spelling.{in_order}
-use Rattle.sig_tree.specs.Fronts.{after, wrap, many_at}
+use Rattle.sig_tree.specs.Fronts.{after_value, wrap, many_at}
 
 pub same_some : {A : Type 0} (x y : A) → ◌≡◌ {A = Option A} (Some x) (Some y) → x ≡ y
 same_some x y h = cc
@@ -31,7 +33,7 @@ pub record Came (A B : Type 0) (found : Option (A × List ℕ)) (next : A → Li
   pub first : found ≡ Some (value, rest)
   pub then : next value rest ≡ Some y
 
-pub came : {A B : Type 0} (found : Option (A × List ℕ)) (next : A → List ℕ → Option B) (y : B) → after found next ≡ Some y → Came A B found next y
+pub came : {A B : Type 0} (found : Option (A × List ℕ)) (next : A → List ℕ → Option B) (y : B) → after_value found next ≡ Some y → Came A B found next y
 came {A} {B} None next y h = none_some {A = B} {P = Came A B None next y} y h
 came (Some x) next y h = record { value = x.0; rest = x.1; first = refl; then = h }
 
@@ -47,8 +49,8 @@ wrapped f (Some x) b r h =
     let e = same_some (f x.0, x.1) (b, r) h in
     record { value = x.0; first = ap (λ s. Some (x.0, s)) (ap (λ p. p.1) e); same = ap (λ p. p.0) e }
 
-pub goes : {A B : Type 0} (found : Option (A × List ℕ)) (next : A → List ℕ → Option B) (a : A) (r : List ℕ) → found ≡ Some (a, r) → after found next ≡ next a r
-goes {A} {B} found next a r h = ap (λ (o : Option (A × List ℕ)). after {A = A} {B = B} o next) h
+pub goes : {A B : Type 0} (found : Option (A × List ℕ)) (next : A → List ℕ → Option B) (a : A) (r : List ℕ) → found ≡ Some (a, r) → after_value found next ≡ next a r
+goes {A} {B} found next a r h = ap (λ (o : Option (A × List ℕ)). after_value {A = A} {B = B} o next) h
 
 pub wraps : {A B : Type 0} (f : A → B) (found : Option (A × List ℕ)) (a : A) (r : List ℕ) → found ≡ Some (a, r) → wrap f found ≡ Some (f a, r)
 wraps {A} {B} f found a r h = ap (λ (o : Option (A × List ℕ)). wrap {A = A} {B = B} f o) h

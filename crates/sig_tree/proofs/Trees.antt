@@ -1,17 +1,20 @@
 -- Signatures of every sort: what is read is what is stripped, and nothing else.
-use Rattle.std.proofs.Common.{◌≡◌, ℕ, suc, ◌+◌, ◌%◌, List, [], ◌∷◌, ◌++◌, Bool, true, false, cond, ◌&&◌, eqb, leb, ltb, ◌-◌, Option, Some, None, length, map, refl, append_assoc, sym, ap, subst, ◌∙◌, arith}
+use Rattle.std.proofs.Common.{◌≡◌, ℕ, suc, ◌+◌, ◌%◌, List, [], ◌∷◌, ◌++◌, Bool, true, false, cond, ◌&&◌, eqb, leb, ltb, Option, Some, None, length, map, refl, append_assoc, sym, ap, subst, ◌∙◌, arith}
 use Rattle.std.specs.Option.{option_and_then}
 use Rattle.std.specs.List.{list_all}
 use Rattle.std.proofs.lemmas.Bool.{eqb-true, eq-eqb}
 use Rattle.std.proofs.lemmas.Bool.Decides.{nat_tests}
 use Rattle.std.proofs.lemmas.List.Folds.{list_all-map}
 use Rattle.cil_base.specs.inner.Reading.{compressed_at}
-use Rattle.sig_tree.specs.Symbols.{Symbol, Byte, Number, strip_symbols}
+use Rattle.sig_tree.specs.declared.symbol.Symbol.{Symbol}
+use Rattle.sig_tree.specs.declared.symbol.Symbol.TheVariants.{Byte, Number}
+use Rattle.sig_tree.specs.Symbols.{strip_symbols}
 use Rattle.sig_tree.specs.Spelling.{arity_symbols, convention_byte, in_order, type_symbols, method_symbols, symbols, strip, with_sentinel, flag}
-use Rattle.sig_tree.specs.Bounds.{is_kind, has_place, type_fits, method_fits, all_fit, fits, Bounded, depth_limit}
-use Rattle.sig_tree.specs.Reads.{is_plain, Reads, Parses}
-use Rattle.sig_tree.specs.Fronts.{after, wrap, many_at, counted_at}
-use Rattle.sig_tree.specs.Parsing.{is_convention, method_at, convention_at, type_at, whole, last_sentinel, ends_method, property_at, sort_at, tree_at}
+use Rattle.sig_tree.specs.Bounds.{is_kind, has_place, type_fits, method_fits, all_fit, sig_fits, IsBoundedSig, depth_limit}
+use Rattle.sig_tree.specs.Reads.{is_plain, ReadsSig}
+use Rattle.sig_tree.specs.Fronts.{after_value, wrap, many_at, counted_at}
+use Rattle.sig_tree.specs.Parsing.{is_convention, method_at, convention_at, type_sig_at}
+use Rattle.sig_tree.specs.TreeAt.{whole, last_sentinel, ends_method, property_at, sort_at, tree_at}
 use Rattle.sig_tree.specs.declared.tree.Sentinel.{Sentinel}
 use Rattle.sig_tree.specs.declared.tree.Sentinel.TheVariants.{None as no_sentinel, Before}
 use Rattle.sig_tree.specs.declared.tree.TypeSig.{TypeSig}
@@ -44,7 +47,7 @@ whole_full {A} found a h = ap (λ (o : Option (A × List ℕ)). whole {A = A} o)
 -- a signature that was read
 record TreeFound (t : SigTree) (s : List ℕ) : Type 0 where
   strips : strip t s ≡ Some []
-  fitting : fits t ≡ true
+  fitting : sig_fits t ≡ true
 
 abbrev limited : TypeSig → Bool
 limited t = type_fits t depth_limit
@@ -55,9 +58,9 @@ all_fit-is ts = list_all-map (λ (t : ℕ → Bool). t depth_limit) type_fits ts
 abbrev types_row : List TypeSig → List Symbol
 types_row ts = Number (length ts) ∷ in_order (map type_symbols ts)
 
-plain_sound : (s : List ℕ) (t : SigTree) → whole (wrap Plain (type_at depth_limit s)) ≡ Some t → TreeFound t s × (is_plain t ≡ true)
+plain_sound : (s : List ℕ) (t : SigTree) → whole (wrap Plain (type_sig_at depth_limit s)) ≡ Some t → TreeFound t s × (is_plain t ≡ true)
 plain_sound s t h =
-    let w = wrapped Plain (type_at depth_limit s) t [] (whole_sound (wrap Plain (type_at depth_limit s)) t h) in
+    let w = wrapped Plain (type_sig_at depth_limit s) t [] (whole_sound (wrap Plain (type_sig_at depth_limit s)) t h) in
     let p = (type_exact depth_limit).sound w.value s [] w.first in
     subst (λ t. TreeFound t s × (is_plain t ≡ true)) w.same (record { strips = p.0; fitting = p.1 }, refl)
 
@@ -65,17 +68,17 @@ plain_sound s t h =
 abbrev OtherFound : SigTree → List ℕ → Type 0
 OtherFound t s = TreeFound t s × (is_plain t ≡ false)
 
-field_sound : (s : List ℕ) (t : SigTree) → whole (wrap Field (type_at depth_limit s)) ≡ Some t → OtherFound t (0x06 ∷ s)
+field_sound : (s : List ℕ) (t : SigTree) → whole (wrap Field (type_sig_at depth_limit s)) ≡ Some t → OtherFound t (0x06 ∷ s)
 field_sound s t h =
-    let w = wrapped Field (type_at depth_limit s) t [] (whole_sound (wrap Field (type_at depth_limit s)) t h) in
+    let w = wrapped Field (type_sig_at depth_limit s) t [] (whole_sound (wrap Field (type_sig_at depth_limit s)) t h) in
     let p = (type_exact depth_limit).sound w.value s [] w.first in
     subst (λ t. OtherFound t (0x06 ∷ s)) w.same (record { strips = begin 0x06 (type_symbols w.value) s [] p.0; fitting = p.1 }, refl)
 
-list_sound : (b : ℕ) (f : List TypeSig → SigTree) → ((ts : List TypeSig) → symbols (f ts) ≡ Byte b ∷ types_row ts) → ((ts : List TypeSig) → fits (f ts) ≡ all_fit ts depth_limit) → ((ts : List TypeSig) → is_plain (f ts) ≡ false)
-    → (s : List ℕ) (t : SigTree) → whole (wrap f (counted_at (type_at depth_limit) s)) ≡ Some t → OtherFound t (b ∷ s)
+list_sound : (b : ℕ) (f : List TypeSig → SigTree) → ((ts : List TypeSig) → symbols (f ts) ≡ Byte b ∷ types_row ts) → ((ts : List TypeSig) → sig_fits (f ts) ≡ all_fit ts depth_limit) → ((ts : List TypeSig) → is_plain (f ts) ≡ false)
+    → (s : List ℕ) (t : SigTree) → whole (wrap f (counted_at (type_sig_at depth_limit) s)) ≡ Some t → OtherFound t (b ∷ s)
 list_sound b f row fit sort s t h =
-    let w = wrapped f (counted_at (type_at depth_limit) s) t [] (whole_sound (wrap f (counted_at (type_at depth_limit) s)) t h) in
-    let p = (types_exact (type_at depth_limit) limited (type_exact depth_limit)).sound w.value s [] w.first in
+    let w = wrapped f (counted_at (type_sig_at depth_limit) s) t [] (whole_sound (wrap f (counted_at (type_sig_at depth_limit) s)) t h) in
+    let p = (types_exact (type_sig_at depth_limit) limited (type_exact depth_limit)).sound w.value s [] w.first in
     subst (λ t. OtherFound t (b ∷ s)) w.same (
       record {
         strips = ap (λ ys. strip_symbols ys (b ∷ s)) (row w.value) ∙ begin b (types_row w.value) s [] p.0;
@@ -84,14 +87,14 @@ list_sound b f row fit sort s t h =
       sort w.value,
     )
 
-list_full : (b : ℕ) (f : List TypeSig → SigTree) → ((ts : List TypeSig) → symbols (f ts) ≡ Byte b ∷ types_row ts) → ((ts : List TypeSig) → fits (f ts) ≡ all_fit ts depth_limit)
-    → ((s : List ℕ) → tree_at false (b ∷ s) ≡ whole (wrap f (counted_at (type_at depth_limit) s)))
-    → (ts : List TypeSig) (s : List ℕ) → strip (f ts) s ≡ Some [] → fits (f ts) ≡ true → tree_at false s ≡ Some (f ts)
+list_full : (b : ℕ) (f : List TypeSig → SigTree) → ((ts : List TypeSig) → symbols (f ts) ≡ Byte b ∷ types_row ts) → ((ts : List TypeSig) → sig_fits (f ts) ≡ all_fit ts depth_limit)
+    → ((s : List ℕ) → tree_at false (b ∷ s) ≡ whole (wrap f (counted_at (type_sig_at depth_limit) s)))
+    → (ts : List TypeSig) (s : List ℕ) → strip (f ts) s ≡ Some [] → sig_fits (f ts) ≡ true → tree_at false s ≡ Some (f ts)
 list_full b f row fit step ts s h k =
     let p = begins_with b (types_row ts) s [] (sym (ap (λ ys. strip_symbols ys s) (row ts)) ∙ h) in
     ap (tree_at false) p.front ∙ step p.rest
-    ∙ whole_full (wrap f (counted_at (type_at depth_limit) p.rest)) (f ts)
-    (wraps f (counted_at (type_at depth_limit) p.rest) ts [] ((types_exact (type_at depth_limit) limited (type_exact depth_limit)).full ts p.rest [] p.then (sym (fit ts ∙ all_fit-is ts) ∙ k)))
+    ∙ whole_full (wrap f (counted_at (type_sig_at depth_limit) p.rest)) (f ts)
+    (wraps f (counted_at (type_sig_at depth_limit) p.rest) ts [] ((types_exact (type_sig_at depth_limit) limited (type_exact depth_limit)).full ts p.rest [] p.then (sym (fit ts ∙ all_fit-is ts) ∙ k)))
 
 abbrev property_row : TypeSig → List TypeSig → List Symbol
 property_row t params = type_symbols t ++ in_order (map type_symbols params)
@@ -99,12 +102,12 @@ property_row t params = type_symbols t ++ in_order (map type_symbols params)
 property_sound : (this : Bool) (s : List ℕ) (t : SigTree) → whole (property_at this s) ≡ Some t → OtherFound t ((0x08 + flag this 0x20) ∷ s)
 property_sound this s t h =
     let b = 0x08 + flag this 0x20 in
-    let a = came (compressed_at s) (λ n r. after (type_at depth_limit r) (λ t r. wrap (λ params. Property this t params) (many_at (type_at depth_limit) n r))) (t, []) (whole_sound (property_at this s) t h) in
-    let c = came (type_at depth_limit a.rest) (λ t r. wrap (λ params. Property this t params) (many_at (type_at depth_limit) a.value r)) (t, []) a.then in
-    let w = wrapped (λ params. Property this c.value params) (many_at (type_at depth_limit) a.value c.rest) t [] c.then in
+    let a = came (compressed_at s) (λ n r. after_value (type_sig_at depth_limit r) (λ t r. wrap (λ params. Property this t params) (many_at (type_sig_at depth_limit) n r))) (t, []) (whole_sound (property_at this s) t h) in
+    let c = came (type_sig_at depth_limit a.rest) (λ t r. wrap (λ params. Property this t params) (many_at (type_sig_at depth_limit) a.value r)) (t, []) a.then in
+    let w = wrapped (λ params. Property this c.value params) (many_at (type_sig_at depth_limit) a.value c.rest) t [] c.then in
     let n = number_exact.sound a.value s a.rest a.first in
     let ty = (type_exact depth_limit).sound c.value a.rest c.rest c.first in
-    let ps = many_sound (type_at depth_limit) type_symbols limited (type_exact depth_limit) a.value w.value c.rest [] w.first in
+    let ps = many_sound (type_sig_at depth_limit) type_symbols limited (type_exact depth_limit) a.value w.value c.rest [] w.first in
     subst (λ t. OtherFound t (b ∷ s)) w.same (
       record {
         strips = begin b (Number (length w.value) ∷ property_row c.value w.value) s []
@@ -116,7 +119,7 @@ property_sound this s t h =
     )
 
 property_full : (this : Bool) → ((s : List ℕ) → tree_at false ((0x08 + flag this 0x20) ∷ s) ≡ whole (property_at this s)) → (t : TypeSig) (params : List TypeSig) (s : List ℕ)
-    → strip (Property this t params) s ≡ Some [] → fits (Property this t params) ≡ true → tree_at false s ≡ Some (Property this t params)
+    → strip (Property this t params) s ≡ Some [] → sig_fits (Property this t params) ≡ true → tree_at false s ≡ Some (Property this t params)
 property_full this step t params s h k =
     let b = begins_with (0x08 + flag this 0x20) (Number (length params) ∷ property_row t params) s [] h in
     let p = parts (Number (length params) ∷ []) (property_row t params) b.rest [] b.then in
@@ -124,9 +127,9 @@ property_full this step t params s h k =
     let f = both (limited t) (all_fit params depth_limit) k in
     ap (tree_at false) b.front ∙ step b.rest
     ∙ whole_full (property_at this b.rest) (Property this t params)
-    (goes (compressed_at b.rest) (λ n r. after (type_at depth_limit r) (λ t r. wrap (λ params. Property this t params) (many_at (type_at depth_limit) n r))) (length params) p.rest (number_exact.full (length params) b.rest p.rest p.before refl)
-    ∙ goes (type_at depth_limit p.rest) (λ t r. wrap (λ params. Property this t params) (many_at (type_at depth_limit) (length params) r)) t q.rest ((type_exact depth_limit).full t p.rest q.rest q.before f.0)
-    ∙ wraps (λ params. Property this t params) (many_at (type_at depth_limit) (length params) q.rest) params [] (many_full (type_at depth_limit) type_symbols limited (type_exact depth_limit) params q.rest [] q.then (sym (all_fit-is params) ∙ f.1)))
+    (goes (compressed_at b.rest) (λ n r. after_value (type_sig_at depth_limit r) (λ t r. wrap (λ params. Property this t params) (many_at (type_sig_at depth_limit) n r))) (length params) p.rest (number_exact.full (length params) b.rest p.rest p.before refl)
+    ∙ goes (type_sig_at depth_limit p.rest) (λ t r. wrap (λ params. Property this t params) (many_at (type_sig_at depth_limit) (length params) r)) t q.rest ((type_exact depth_limit).full t p.rest q.rest q.before f.0)
+    ∙ wraps (λ params. Property this t params) (many_at (type_sig_at depth_limit) (length params) q.rest) params [] (many_full (type_sig_at depth_limit) type_symbols limited (type_exact depth_limit) params q.rest [] q.then (sym (all_fit-is params) ∙ f.1)))
 
 -- a method with a sentinel after its last parameter
 abbrev ended : MethodSig → MethodSig
@@ -179,9 +182,9 @@ place_wider n (Before j) h = grind (arith, nat_tests)
 place_end : (n : ℕ) → leb n n ≡ true
 place_end n = grind (arith, nat_tests)
 
-ended_found : (m : MethodSig) (s : List ℕ) → m.sentinel ≡ no_sentinel → method_at (type_at depth_limit) s ≡ Some (m, 0x41 ∷ []) → OtherFound (Method (ended m)) s
+ended_found : (m : MethodSig) (s : List ℕ) → m.sentinel ≡ no_sentinel → method_at (type_sig_at depth_limit) s ≡ Some (m, 0x41 ∷ []) → OtherFound (Method (ended m)) s
 ended_found m s e h =
-    let p = method_sound (type_at depth_limit) depth_limit (type_exact depth_limit) m s (0x41 ∷ []) h in
+    let p = method_sound (type_sig_at depth_limit) depth_limit (type_exact depth_limit) m s (0x41 ∷ []) h in
     let f = fit_parts m true p.fits in
     let same : method_symbols (bare m) ≡ method_symbols m =
     row-is (bare m) ∙ ap (λ (x : Sentinel). row_with m (rows x 0 m.params)) (sym e) ∙ sym (row-is m) in (
@@ -193,7 +196,7 @@ ended_found m s e h =
       refl,
     )
 
-last_found : (m : MethodSig) (sentinel : Sentinel) (s : List ℕ) (t : SigTree) → m.sentinel ≡ sentinel → method_at (type_at depth_limit) s ≡ Some (m, 0x41 ∷ []) → last_sentinel m sentinel ≡ Some t → OtherFound t s
+last_found : (m : MethodSig) (sentinel : Sentinel) (s : List ℕ) (t : SigTree) → m.sentinel ≡ sentinel → method_at (type_sig_at depth_limit) s ≡ Some (m, 0x41 ∷ []) → last_sentinel m sentinel ≡ Some t → OtherFound t s
 last_found m no_sentinel s t e found h = subst (λ t. OtherFound t s) (same_some (Method (ended m)) t h) (ended_found m s e found)
 last_found m (Before n) s t e found h = none_some {A = SigTree} {P = OtherFound t s} t h
 
@@ -201,9 +204,9 @@ nothing : (s : List ℕ) → eqb (length s) 0 ≡ true → s ≡ []
 nothing [] h = refl
 nothing (x ∷ s) h = let no = suc_not (length s) in absurd cc
 
-ends_found : (m : MethodSig) (r s : List ℕ) (t : SigTree) → method_at (type_at depth_limit) s ≡ Some (m, r) → ends_method (m, r) ≡ Some t → OtherFound t s
+ends_found : (m : MethodSig) (r s : List ℕ) (t : SigTree) → method_at (type_sig_at depth_limit) s ≡ Some (m, r) → ends_method (m, r) ≡ Some t → OtherFound t s
 ends_found m [] s t found h =
-    let p = method_sound (type_at depth_limit) depth_limit (type_exact depth_limit) m s [] found in
+    let p = method_sound (type_sig_at depth_limit) depth_limit (type_exact depth_limit) m s [] found in
     let f = fit_parts m true p.fits in
     subst (λ t. OtherFound t s) (same_some (Method m) t h) (record { strips = p.strips; fitting = fits_with m false f.0 (place_wider (length m.params) m.sentinel f.1) }, refl)
 ends_found m (b ∷ r) s t found h =
@@ -214,29 +217,29 @@ ends_found m (b ∷ r) s t found h =
     last_found m m.sentinel s t refl (found ∙ ap (λ r. Some (m, r)) end) f)
     (λ e f. none_some {A = SigTree} {P = OtherFound t s} t f)
 
-method_found : (found : Option (MethodSig × List ℕ)) (s : List ℕ) (t : SigTree) → method_at (type_at depth_limit) s ≡ found → option_and_then {T = MethodSig × List ℕ} {U = SigTree} ends_method found ≡ Some t → OtherFound t s
+method_found : (found : Option (MethodSig × List ℕ)) (s : List ℕ) (t : SigTree) → method_at (type_sig_at depth_limit) s ≡ found → option_and_then {T = MethodSig × List ℕ} {U = SigTree} ends_method found ≡ Some t → OtherFound t s
 method_found None s t e h = none_some {A = SigTree} {P = OtherFound t s} t h
 method_found (Some x) s t e h = ends_found x.0 x.1 s t e h
 
 -- the other way
 method_inner : (m : MethodSig) (s : List ℕ) → strip_symbols (method_symbols m) s ≡ Some [] → method_fits m true depth_limit ≡ true
-    → option_and_then {T = MethodSig × List ℕ} {U = SigTree} ends_method (method_at (type_at depth_limit) s) ≡ Some (Method m)
-method_inner m s h k = ap (option_and_then {T = MethodSig × List ℕ} {U = SigTree} ends_method) (method_full (type_at depth_limit) depth_limit (type_exact depth_limit) (sentinel_none depth_limit) m s [] h k)
+    → option_and_then {T = MethodSig × List ℕ} {U = SigTree} ends_method (method_at (type_sig_at depth_limit) s) ≡ Some (Method m)
+method_inner m s h k = ap (option_and_then {T = MethodSig × List ℕ} {U = SigTree} ends_method) (method_full (type_sig_at depth_limit) depth_limit (type_exact depth_limit) (sentinel_none depth_limit) m s [] h k)
 
 method_end : (m : MethodSig) (s : List ℕ) → strip_symbols (method_symbols (ended m)) s ≡ Some [] → within m ≡ true
-    → option_and_then {T = MethodSig × List ℕ} {U = SigTree} ends_method (method_at (type_at depth_limit) s) ≡ Some (Method (ended m))
+    → option_and_then {T = MethodSig × List ℕ} {U = SigTree} ends_method (method_at (type_sig_at depth_limit) s) ≡ Some (Method (ended m))
 method_end m s h k =
     let p = parts (method_symbols (bare m)) mark s [] (sym (ap (λ ys. strip_symbols ys s) (ended_row m)) ∙ h) in
     let b = begins_with 0x41 [] p.rest [] p.then in
     let rest : p.rest ≡ 0x41 ∷ [] = b.front ∙ ap (λ s. 0x41 ∷ s) (same_some b.rest [] b.then) in
-    let found = method_full (type_at depth_limit) depth_limit (type_exact depth_limit) (sentinel_none depth_limit) (bare m) s p.rest p.before (fits_with (bare m) true k refl) in
+    let found = method_full (type_sig_at depth_limit) depth_limit (type_exact depth_limit) (sentinel_none depth_limit) (bare m) s p.rest p.before (fits_with (bare m) true k refl) in
     ap (option_and_then {T = MethodSig × List ℕ} {U = SigTree} ends_method) (found ∙ ap (λ r. Some (bare m, r)) rest)
 
 method_choice : (m : MethodSig) (sentinel : Sentinel) (s : List ℕ) → m.sentinel ≡ sentinel → strip_symbols (method_symbols m) s ≡ Some [] → within m ≡ true → has_place false (length m.params) sentinel ≡ true
-    → option_and_then {T = MethodSig × List ℕ} {U = SigTree} ends_method (method_at (type_at depth_limit) s) ≡ Some (Method m)
+    → option_and_then {T = MethodSig × List ℕ} {U = SigTree} ends_method (method_at (type_sig_at depth_limit) s) ≡ Some (Method m)
 method_choice m no_sentinel s e h k place = method_inner m s h (fits_with m true k (ap (has_place true (length m.params)) e))
 method_choice m (Before n) s e h k place =
-    elim (ltb n (length m.params)) as (λ v. ltb n (length m.params) ≡ v → option_and_then {T = MethodSig × List ℕ} {U = SigTree} ends_method (method_at (type_at depth_limit) s) ≡ Some (Method m)) [
+    elim (ltb n (length m.params)) as (λ v. ltb n (length m.params) ≡ v → option_and_then {T = MethodSig × List ℕ} {U = SigTree} ends_method (method_at (type_sig_at depth_limit) s) ≡ Some (Method m)) [
       | true ↦ λ low. method_inner m s h (fits_with m true k (ap (has_place true (length m.params)) e ∙ low))
       | false ↦ λ high.
           let end : n ≡ length m.params = grind (arith, nat_tests) in
@@ -247,15 +250,15 @@ method_choice m (Before n) s e h k place =
 not_sort : (b n : ℕ) → is_kind (b % 0x10) ≡ true → is_kind (n % 0x10) ≡ false → eqb b n ≡ false
 not_sort b n h k = elim (eqb b n) as (λ v. eqb b n ≡ v → v ≡ false) [ true ↦ λ e. let same = ap (λ x. is_kind (x % 0x10)) (eqb-true b n e) in absurd cc | false ↦ λ e. refl ] refl
 
-kind_of : (b : ℕ) (s : List ℕ) (t : SigTree) → option_and_then {T = MethodSig × List ℕ} {U = SigTree} ends_method (method_at (type_at depth_limit) (b ∷ s)) ≡ Some t → is_kind (b % 0x10) ≡ true
+kind_of : (b : ℕ) (s : List ℕ) (t : SigTree) → option_and_then {T = MethodSig × List ℕ} {U = SigTree} ends_method (method_at (type_sig_at depth_limit) (b ∷ s)) ≡ Some t → is_kind (b % 0x10) ≡ true
 kind_of b s t h =
     elim (is_convention b) as (λ v. is_convention b ≡ v → is_kind (b % 0x10) ≡ true) [
       | true ↦ λ e. (both (ltb b 0x80) (is_kind (b % 0x10)) e).1
       | false ↦ λ e. none_some {A = SigTree} {P = is_kind (b % 0x10) ≡ true} t
-          (sym (ap (λ (v : Bool). option_and_then {T = MethodSig × List ℕ} {U = SigTree} ends_method (cond {A = Option (MethodSig × List ℕ)} v (convention_at (type_at depth_limit) b s) None)) e) ∙ h)
+          (sym (ap (λ (v : Bool). option_and_then {T = MethodSig × List ℕ} {U = SigTree} ends_method (cond {A = Option (MethodSig × List ℕ)} v (convention_at (type_sig_at depth_limit) b s) None)) e) ∙ h)
     ] refl
 
-sort_step : (b : ℕ) (s : List ℕ) → is_kind (b % 0x10) ≡ true → tree_at false (b ∷ s) ≡ option_and_then {T = MethodSig × List ℕ} {U = SigTree} ends_method (method_at (type_at depth_limit) (b ∷ s))
+sort_step : (b : ℕ) (s : List ℕ) → is_kind (b % 0x10) ≡ true → tree_at false (b ∷ s) ≡ option_and_then {T = MethodSig × List ℕ} {U = SigTree} ends_method (method_at (type_sig_at depth_limit) (b ∷ s))
 unfolding tree_at sort_at
 sort_step b s h =
     let a = not_sort b 0x06 h refl in
@@ -265,7 +268,7 @@ sort_step b s h =
     let f = not_sort b 0x0a h refl in
     rw (a, c, d, e, f)
 
-method_whole : (m : MethodSig) (s : List ℕ) → option_and_then {T = MethodSig × List ℕ} {U = SigTree} ends_method (method_at (type_at depth_limit) s) ≡ Some (Method m) → tree_at false s ≡ Some (Method m)
+method_whole : (m : MethodSig) (s : List ℕ) → option_and_then {T = MethodSig × List ℕ} {U = SigTree} ends_method (method_at (type_sig_at depth_limit) s) ≡ Some (Method m) → tree_at false s ≡ Some (Method m)
 method_whole m [] h = none_some {A = SigTree} {P = tree_at false [] ≡ Some (Method m)} (Method m) h
 method_whole m (b ∷ s) h = sort_step b s (kind_of b s (Method m) h) ∙ h
 
@@ -275,17 +278,17 @@ other_byte b n t s e h = subst (λ k. OtherFound t (k ∷ s)) (sym (eqb-true b n
 sort_sound : (b : ℕ) (s : List ℕ) (t : SigTree) → sort_at b s ≡ Some t → OtherFound t (b ∷ s)
 unfolding sort_at
 sort_sound b s t h =
-    let none : Option SigTree = option_and_then {T = MethodSig × List ℕ} {U = SigTree} ends_method (method_at (type_at depth_limit) (b ∷ s)) in
-    let s4 = cond (eqb b 0x0a) (whole (wrap MethodInst (counted_at (type_at depth_limit) s))) none in
+    let none : Option SigTree = option_and_then {T = MethodSig × List ℕ} {U = SigTree} ends_method (method_at (type_sig_at depth_limit) (b ∷ s)) in
+    let s4 = cond (eqb b 0x0a) (whole (wrap MethodInst (counted_at (type_sig_at depth_limit) s))) none in
     let s3 = cond (eqb b 0x28) (whole (property_at true s)) s4 in
     let s2 = cond (eqb b 0x08) (whole (property_at false s)) s3 in
-    let s1 = cond (eqb b 0x07) (whole (wrap Locals (counted_at (type_at depth_limit) s))) s2 in
-    split {P = OtherFound t (b ∷ s)} (eqb b 0x06) (whole (wrap Field (type_at depth_limit s))) s1 (Some t) h (λ e f. other_byte b 0x06 t s e (field_sound s t f))
-    (λ e f. split {P = OtherFound t (b ∷ s)} (eqb b 0x07) (whole (wrap Locals (counted_at (type_at depth_limit) s))) s2 (Some t) f (λ e f. other_byte b 0x07 t s e (list_sound 0x07 Locals (λ ts. refl) (λ ts. refl) (λ ts. refl) s t f))
+    let s1 = cond (eqb b 0x07) (whole (wrap Locals (counted_at (type_sig_at depth_limit) s))) s2 in
+    split {P = OtherFound t (b ∷ s)} (eqb b 0x06) (whole (wrap Field (type_sig_at depth_limit s))) s1 (Some t) h (λ e f. other_byte b 0x06 t s e (field_sound s t f))
+    (λ e f. split {P = OtherFound t (b ∷ s)} (eqb b 0x07) (whole (wrap Locals (counted_at (type_sig_at depth_limit) s))) s2 (Some t) f (λ e f. other_byte b 0x07 t s e (list_sound 0x07 Locals (λ ts. refl) (λ ts. refl) (λ ts. refl) s t f))
     (λ e f. split {P = OtherFound t (b ∷ s)} (eqb b 0x08) (whole (property_at false s)) s3 (Some t) f (λ e f. other_byte b 0x08 t s e (property_sound false s t f))
     (λ e f. split {P = OtherFound t (b ∷ s)} (eqb b 0x28) (whole (property_at true s)) s4 (Some t) f (λ e f. other_byte b 0x28 t s e (property_sound true s t f))
-    (λ e f. split {P = OtherFound t (b ∷ s)} (eqb b 0x0a) (whole (wrap MethodInst (counted_at (type_at depth_limit) s))) none (Some t) f (λ e f. other_byte b 0x0a t s e (list_sound 0x0a MethodInst (λ ts. refl) (λ ts. refl) (λ ts. refl) s t f))
-    (λ e f. method_found (method_at (type_at depth_limit) (b ∷ s)) (b ∷ s) t refl f)))))
+    (λ e f. split {P = OtherFound t (b ∷ s)} (eqb b 0x0a) (whole (wrap MethodInst (counted_at (type_sig_at depth_limit) s))) none (Some t) f (λ e f. other_byte b 0x0a t s e (list_sound 0x0a MethodInst (λ ts. refl) (λ ts. refl) (λ ts. refl) s t f))
+    (λ e f. method_found (method_at (type_sig_at depth_limit) (b ∷ s)) (b ∷ s) t refl f)))))
 
 tree_sound : (plain : Bool) (s : List ℕ) (t : SigTree) → tree_at plain s ≡ Some t → TreeFound t s × (is_plain t ≡ plain)
 unfolding tree_at
@@ -293,7 +296,7 @@ tree_sound true s t h = plain_sound s t h
 tree_sound false [] t h = none_some {A = SigTree} {P = TreeFound t [] × (is_plain t ≡ false)} t h
 tree_sound false (b ∷ s) t h = sort_sound b s t h
 
-step-list : (s : List ℕ) → (tree_at false (0x07 ∷ s) ≡ whole (wrap Locals (counted_at (type_at depth_limit) s))) × (tree_at false (0x0a ∷ s) ≡ whole (wrap MethodInst (counted_at (type_at depth_limit) s)))
+step-list : (s : List ℕ) → (tree_at false (0x07 ∷ s) ≡ whole (wrap Locals (counted_at (type_sig_at depth_limit) s))) × (tree_at false (0x0a ∷ s) ≡ whole (wrap MethodInst (counted_at (type_sig_at depth_limit) s)))
 unfolding tree_at sort_at
 step-list s = (refl, refl)
 
@@ -302,18 +305,18 @@ unfolding tree_at sort_at
 step-property true s = refl
 step-property false s = refl
 
-field_full : (t : TypeSig) (s : List ℕ) → strip (Field t) s ≡ Some [] → fits (Field t) ≡ true → tree_at false s ≡ Some (Field t)
+field_full : (t : TypeSig) (s : List ℕ) → strip (Field t) s ≡ Some [] → sig_fits (Field t) ≡ true → tree_at false s ≡ Some (Field t)
 unfolding tree_at sort_at
 field_full t s h k =
     let b = begins_with 0x06 (type_symbols t) s [] h in
     ap (tree_at false) b.front
-    ∙ whole_full (wrap Field (type_at depth_limit b.rest)) (Field t) (wraps Field (type_at depth_limit b.rest) t [] ((type_exact depth_limit).full t b.rest [] b.then k))
+    ∙ whole_full (wrap Field (type_sig_at depth_limit b.rest)) (Field t) (wraps Field (type_sig_at depth_limit b.rest) t [] ((type_exact depth_limit).full t b.rest [] b.then k))
 
-plain_full : (t : TypeSig) (s : List ℕ) → strip (Plain t) s ≡ Some [] → fits (Plain t) ≡ true → tree_at true s ≡ Some (Plain t)
+plain_full : (t : TypeSig) (s : List ℕ) → strip (Plain t) s ≡ Some [] → sig_fits (Plain t) ≡ true → tree_at true s ≡ Some (Plain t)
 unfolding tree_at
-plain_full t s h k = whole_full (wrap Plain (type_at depth_limit s)) (Plain t) (wraps Plain (type_at depth_limit s) t [] ((type_exact depth_limit).full t s [] h k))
+plain_full t s h k = whole_full (wrap Plain (type_sig_at depth_limit s)) (Plain t) (wraps Plain (type_sig_at depth_limit s) t [] ((type_exact depth_limit).full t s [] h k))
 
-other_full : (t : SigTree) (s : List ℕ) → strip t s ≡ Some [] → fits t ≡ true → is_plain t ≡ false → tree_at false s ≡ Some t
+other_full : (t : SigTree) (s : List ℕ) → strip t s ≡ Some [] → sig_fits t ≡ true → is_plain t ≡ false → tree_at false s ≡ Some t
 other_full (Method m) s h k sort = let f = fit_parts m false k in method_whole m s (method_choice m m.sentinel s refl h f.0 f.1)
 other_full (Field t) s h k sort = field_full t s h k
 other_full (Locals ts) s h k sort = list_full 0x07 Locals (λ ts. refl) (λ ts. refl) (λ s. (step-list s).0) ts s h k
@@ -321,7 +324,7 @@ other_full (Property this t params) s h k sort = property_full this (step-proper
 other_full (MethodInst args) s h k sort = list_full 0x0a MethodInst (λ ts. refl) (λ ts. refl) (λ s. (step-list s).1) args s h k
 other_full (Plain t) s h k sort = absurd cc
 
-alone_full : (t : SigTree) (s : List ℕ) → strip t s ≡ Some [] → fits t ≡ true → is_plain t ≡ true → tree_at true s ≡ Some t
+alone_full : (t : SigTree) (s : List ℕ) → strip t s ≡ Some [] → sig_fits t ≡ true → is_plain t ≡ true → tree_at true s ≡ Some t
 alone_full (Method m) s h k sort = absurd cc
 alone_full (Field t) s h k sort = absurd cc
 alone_full (Locals ts) s h k sort = absurd cc
@@ -329,22 +332,17 @@ alone_full (Property this t params) s h k sort = absurd cc
 alone_full (MethodInst args) s h k sort = absurd cc
 alone_full (Plain t) s h k sort = plain_full t s h k
 
-pub tree_full : (plain : Bool) (s : List ℕ) (t : SigTree) → Reads plain t s → tree_at plain s ≡ Some t
+pub tree_full : (plain : Bool) (s : List ℕ) (t : SigTree) → ReadsSig plain t s → tree_at plain s ≡ Some t
 tree_full true s t h = alone_full t s h.whole h.bounded.fitting h.sort
 tree_full false s t h = other_full t s h.whole h.bounded.fitting h.sort
 
-pub tree_reads : (plain : Bool) (s : List ℕ) (t : SigTree) → tree_at plain s ≡ Some t → Reads plain t s
+pub tree_reads : (plain : Bool) (s : List ℕ) (t : SigTree) → tree_at plain s ≡ Some t → ReadsSig plain t s
 tree_reads plain s t h =
     let p = tree_sound plain s t h in
     record { whole = p.0.strips; bounded = record { fitting = p.0.fitting; spellable = strips_spellable (symbols t) s [] p.0.strips }; sort = p.1 }
 
--- the parser's answer is the one signature that reads the bytes
-pub parses : (plain : Bool) (s : List ℕ) (found : Option SigTree) → tree_at plain s ≡ found → Parses plain s found
-parses plain s None e = λ t h. none_some {A = SigTree} {P = ⊥} t (sym e ∙ tree_full plain s t h)
-parses plain s (Some found) e = (tree_reads plain s found e, λ t h. same_some t found (sym (tree_full plain s t h) ∙ e))
-
-pub one_reading : (plain : Bool) (a b : SigTree) (s : List ℕ) → Reads plain a s → Reads plain b s → a ≡ b
+pub one_reading : (plain : Bool) (a b : SigTree) (s : List ℕ) → ReadsSig plain a s → ReadsSig plain b s → a ≡ b
 one_reading plain a b s h k = same_some a b (sym (tree_full plain s a h) ∙ tree_full plain s b k)
 
-pub tree_bounded : (plain : Bool) (s : List ℕ) (t : SigTree) → tree_at plain s ≡ Some t → Bounded t
+pub tree_bounded : (plain : Bool) (s : List ℕ) (t : SigTree) → tree_at plain s ≡ Some t → IsBoundedSig t
 tree_bounded plain s t h = (tree_reads plain s t h).bounded

@@ -1,12 +1,12 @@
--- What stands at the front of bytes, one value after another: the parser's own words. No public contract cites them.
-use Rattle.std.specs.Prelude.{◌≡◌, ℕ, zero, suc, ◌/◌, ◌%◌, ◌^◌, ◌==◌, List, [], ◌∷◌, ◌++◌, Option, Some, None, nat_lt, option_map, option_and_then, if◌then◌else◌}
-use Rattle.std.specs.Borrow.{Bor}
+-- What stands at the front of bytes, one value after another: each gives the value and the bytes after it.
+use Rattle.std.specs.Prelude.{ℕ, zero, suc, ◌/◌, ◌%◌, ◌^◌, ◌==◌, List, [], ◌∷◌, Option, Some, None}
+use Rattle.std.specs.Prelude.{nat_lt, option_map, option_and_then, if◌then◌else◌}
 use Rattle.cil_base.specs.Token.{Token}
 use Rattle.cil_base.specs.inner.Reading.{compressed_at}
 
 -- then: what a value and the bytes after it give
-abbrev pub after : {A B : Type 0} → Option (A × List ℕ) → (A → List ℕ → Option B) → Option B
-after {A} {B} found next = option_and_then {T = A × List ℕ} {U = B} (λ x. next x.0 x.1) found
+abbrev pub after_value : {A B : Type 0} → Option (A × List ℕ) → (A → List ℕ → Option B) → Option B
+after_value {A} {B} found next = option_and_then {T = A × List ℕ} {U = B} (λ x. next x.0 x.1) found
 
 -- the same with the value changed
 abbrev pub wrap : {A B : Type 0} → (A → B) → Option (A × List ℕ) → Option (B × List ℕ)
@@ -15,27 +15,21 @@ wrap {A} {B} f found = option_map {T = A × List ℕ} {U = B × List ℕ} (λ x.
 -- so many items, one after the other
 abbrev pub many_at : {A : Type 0} → (List ℕ → Option (A × List ℕ)) → ℕ → List ℕ → Option (List A × List ℕ)
 many_at item zero s = Some ([], s)
-many_at item (suc n) s = after (item s) (λ x r. wrap (λ xs. x ∷ xs) (many_at item n r))
-
--- items with others before them
-abbrev pub fronted : {A : Type 0} → List A → Option (List A × List ℕ) → Option (List A × List ℕ)
-fronted {A} before found = wrap {A = List A} {B = List A} (λ xs. before ++ xs) found
+many_at item (suc n) s = after_value (item s) (λ x r. wrap (λ xs. x ∷ xs) (many_at item n r))
 
 -- a count, and so many items
 abbrev pub counted_at : {A : Type 0} → (List ℕ → Option (A × List ℕ)) → List ℕ → Option (List A × List ℕ)
-counted_at item s = after (compressed_at s) (λ n r. many_at item n r)
+counted_at item s = after_value (compressed_at s) (λ n r. many_at item n r)
 
 -- the table of a tag
-abbrev pub table_of : ℕ → Option ℕ
-table_of tag = if tag == 0 then Some 0x02 else (if tag == 1 then Some 0x01 else (if tag == 2 then Some 0x1b else None))
+abbrev pub table_of_tag : ℕ → Option ℕ
+table_of_tag tag =
+    if tag == 0 then Some 0x02 else (if tag == 1 then Some 0x01 else (if tag == 2 then Some 0x1b else None))
 
 abbrev pub token_of_number : ℕ → Option Token
-token_of_number n = if nat_lt (n / 4) (2 ^ 24) then option_map (λ table. record { table = table; rid = n / 4 }) (table_of (n % 4)) else None
+token_of_number n =
+    if nat_lt (n / 4) (2 ^ 24) then option_map (λ table. record { table = table; rid = n / 4 }) (table_of_tag (n % 4))
+    else None
 
 abbrev pub type_token_at : List ℕ → Option (Token × List ℕ)
-type_token_at s = after (compressed_at s) (λ n r. option_map (λ t. (t, r)) (token_of_number n))
-
--- an answer of the parser, with the bytes that are left
-abbrev pub Finds : {A : Type 0} → Option (A × Bor (List ℕ)) → Option (A × List ℕ) → Type 0
-Finds None expected = expected ≡ None
-Finds (Some x) expected = expected ≡ Some (x.0, x.1.now)
+type_token_at s = after_value (compressed_at s) (λ n r. option_map (λ t. (t, r)) (token_of_number n))

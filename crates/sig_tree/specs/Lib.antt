@@ -6,4 +6,6 @@ pub mod Printed
 pub mod Fronts
 pub mod Parsing
 pub mod Reads
+pub mod TreeAt
 pub mod Replaced
+pub mod inner

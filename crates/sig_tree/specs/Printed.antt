@@ -13,7 +13,8 @@ use Rattle.sig_tree.specs.declared.tree.TypeSig.{TypeSig}
 use Rattle.sig_tree.specs.declared.tree.MethodSig.{MethodSig}
 use Rattle.sig_tree.specs.declared.tree.SigTree.{SigTree}
 use Rattle.sig_tree.specs.declared.tree.SigTree.TheVariants.{Method, Field, Locals, Property, Inst as MethodInst, Plain}
-use Rattle.sig_tree.specs.declared.tree.TypeSig.TheOpen.{TypeSig-F, Prim, Ptr, ByRef, Value, Class, Var, MVar, SzArray, Array, Inst, FnPtr, Mod, Pinned, MethodSig-F}
+use Rattle.sig_tree.specs.declared.tree.TypeSig.TheOpen.{TypeSig-F, Prim, Ptr, ByRef, Value, Class, Var, MVar}
+use Rattle.sig_tree.specs.declared.tree.TypeSig.TheOpen.{SzArray, Array, Inst, FnPtr, Mod, Pinned, MethodSig-F}
 use Rattle.sig_tree.specs.declared.tree.TypeSig.TheFolds.{fold-TypeSig, fold-MethodSig}
 
 -- the characters of a text
@@ -48,11 +49,14 @@ type_pieces_level (Var n) = chars (codes "!") ++ chars (decimal n)
 type_pieces_level (MVar n) = chars (codes "!!") ++ chars (decimal n)
 type_pieces_level (SzArray t) = t ++ chars (codes "[]")
 type_pieces_level (Array elem rank sizes lows) =
-    elem ++ chars (codes "[") ++ chars (decimal rank) ++ chars (codes ";") ++ commas true (map (λ n. chars (decimal n)) sizes)
+    elem ++ chars (codes "[") ++ chars (decimal rank)
+    ++ chars (codes ";") ++ commas true (map (λ n. chars (decimal n)) sizes)
     ++ chars (codes ";") ++ commas true (map (λ z. chars (signed_decimal z)) lows) ++ chars (codes "]")
-type_pieces_level (Inst value of args) = chars (type_kind value) ++ Name of ∷ chars (codes "<") ++ commas true args ++ chars (codes ">")
+type_pieces_level (Inst value of args) =
+    chars (type_kind value) ++ Name of ∷ chars (codes "<") ++ commas true args ++ chars (codes ">")
 type_pieces_level (FnPtr m) = chars (codes "fnptr(") ++ m ++ chars (codes ")")
-type_pieces_level (Mod required of t) = chars (if required then codes "modreq(" else codes "modopt(") ++ Name of ∷ chars (codes ") ") ++ t
+type_pieces_level (Mod required of t) =
+    chars (if required then codes "modreq(" else codes "modopt(") ++ Name of ∷ chars (codes ") ") ++ t
 type_pieces_level (Pinned t) = chars (codes "pinned ") ++ t
 
 abbrev pub type_pieces : TypeSig → List Piece
@@ -74,28 +78,32 @@ pieces (Property this t params) =
 pieces (MethodInst args) = chars (codes "inst<") ++ types_pieces args ++ chars (codes ">")
 pieces (Plain t) = type_pieces t
 
+-- a token's own text, in the place of its type's name
+abbrev pub own_text : Token → List ℕ
+own_text t = token_text t.table t.rid
+
 abbrev pub piece_text : Piece → List ℕ
 piece_text (Char c) = c ∷ []
-piece_text (Name t) = token_text t.table t.rid
+piece_text (Name t) = own_text t
 
 -- the text, with each token in the place of its type's name
 abbrev pub printed : SigTree → List ℕ
 printed sig = flat_map piece_text (pieces sig)
 
-abbrev pub token_of : Piece → List Token
-token_of (Char c) = []
-token_of (Name t) = t ∷ []
+abbrev pub piece_token : Piece → List Token
+piece_token (Char c) = []
+piece_token (Name t) = t ∷ []
 
 -- the type tokens, in the order in which they are printed
 abbrev pub tokens : SigTree → List Token
-tokens sig = flat_map token_of (pieces sig)
+tokens sig = flat_map piece_token (pieces sig)
 
 -- the text with the names in order in the places of the tokens
-abbrev pub filled : List Piece → List (List ℕ) → List ℕ
-filled [] names = []
-filled (Char c ∷ rest) names = c ∷ filled rest names
-filled (Name t ∷ rest) [] = []
-filled (Name t ∷ rest) (name ∷ names) = name ++ filled rest names
+abbrev pub filled_pieces : List Piece → List (List ℕ) → List ℕ
+filled_pieces [] names = []
+filled_pieces (Char c ∷ rest) names = c ∷ filled_pieces rest names
+filled_pieces (Name t ∷ rest) [] = []
+filled_pieces (Name t ∷ rest) (name ∷ names) = name ++ filled_pieces rest names
 
-abbrev pub named : SigTree → List (List ℕ) → List ℕ
-named sig names = filled (pieces sig) names
+abbrev pub named_sig : SigTree → List (List ℕ) → List ℕ
+named_sig sig names = filled_pieces (pieces sig) names

@@ -1,7 +1,9 @@
 -- The symbols of a signature, sort by sort: ECMA-335 II.23.2.
 use Rattle.std.specs.Prelude.{ℕ, ◌+◌, ◌%◌, ◌==◌, List, [], ◌∷◌, ◌++◌, Option, Bool, false, length, map, if◌then◌else◌}
 use Rattle.std.specs.List.{flat_map}
-use Rattle.sig_tree.specs.Symbols.{Symbol, Byte, Number, Signed, TypeToken, strip_symbols, spelled}
+use Rattle.sig_tree.specs.declared.symbol.Symbol.{Symbol}
+use Rattle.sig_tree.specs.declared.symbol.Symbol.TheVariants.{Byte, Number, Signed, TypeToken}
+use Rattle.sig_tree.specs.Symbols.{strip_symbols, spelled}
 use Rattle.sig_tree.specs.declared.tree.Arity.{Arity}
 use Rattle.sig_tree.specs.declared.tree.Arity.TheVariants.{Plain as not_generic, Generic}
 use Rattle.sig_tree.specs.declared.tree.Sentinel.{Sentinel}
@@ -10,7 +12,8 @@ use Rattle.sig_tree.specs.declared.tree.TypeSig.{TypeSig}
 use Rattle.sig_tree.specs.declared.tree.MethodSig.{MethodSig}
 use Rattle.sig_tree.specs.declared.tree.SigTree.{SigTree}
 use Rattle.sig_tree.specs.declared.tree.SigTree.TheVariants.{Method, Field, Locals, Property, Inst as MethodInst, Plain}
-use Rattle.sig_tree.specs.declared.tree.TypeSig.TheOpen.{TypeSig-F, Prim, Ptr, ByRef, Value, Class, Var, MVar, SzArray, Array, Inst, FnPtr, Mod, Pinned, MethodSig-F}
+use Rattle.sig_tree.specs.declared.tree.TypeSig.TheOpen.{TypeSig-F, Prim, Ptr, ByRef, Value, Class, Var, MVar}
+use Rattle.sig_tree.specs.declared.tree.TypeSig.TheOpen.{SzArray, Array, Inst, FnPtr, Mod, Pinned, MethodSig-F}
 use Rattle.sig_tree.specs.declared.tree.TypeSig.TheFolds.{fold-TypeSig, fold-MethodSig}
 
 -- whether the sentinel stands before the item of that number
@@ -54,7 +57,10 @@ convention_byte kind arity this explicit = kind % 0x10 + generic_flag arity + fl
 
 -- the symbols of a method, of its parts' symbols: SENTINEL 41 is not counted as a parameter
 abbrev pub method_level : MethodSig-F (List Symbol) (List Symbol) → List Symbol
-method_level m = Byte (convention_byte m.kind m.arity m.this m.explicit) ∷ (arity_symbols m.arity ++ (Number (length m.params) ∷ (m.ret ++ in_order (with_sentinel m.sentinel (Byte 0x41 ∷ []) 0 m.params))))
+method_level m =
+    Byte (convention_byte m.kind m.arity m.this m.explicit)
+    ∷ (arity_symbols m.arity ++ (Number (length m.params) ∷ (m.ret
+    ++ in_order (with_sentinel m.sentinel (Byte 0x41 ∷ []) 0 m.params))))
 
 -- the symbols of a type, of its parts' symbols
 abbrev pub type_level : TypeSig-F (List Symbol) (List Symbol) → List Symbol
@@ -64,8 +70,10 @@ type_level (ByRef t) = Byte 0x10 ∷ t
 type_level (Value of) = Byte 0x11 ∷ TypeToken of ∷ []
 type_level (Class of) = Byte 0x12 ∷ TypeToken of ∷ []
 type_level (Var n) = Byte 0x13 ∷ Number n ∷ []
-type_level (Array elem rank sizes lows) = Byte 0x14 ∷ (elem ++ (Number rank ∷ (counted (map Number sizes) ++ counted (map Signed lows))))
-type_level (Inst value of args) = Byte 0x15 ∷ Byte (if value then 0x11 else 0x12) ∷ TypeToken of ∷ Number (length args) ∷ in_order args
+type_level (Array elem rank sizes lows) =
+    Byte 0x14 ∷ (elem ++ (Number rank ∷ (counted (map Number sizes) ++ counted (map Signed lows))))
+type_level (Inst value of args) =
+    Byte 0x15 ∷ Byte (if value then 0x11 else 0x12) ∷ TypeToken of ∷ Number (length args) ∷ in_order args
 type_level (FnPtr m) = Byte 0x1b ∷ m
 type_level (SzArray t) = Byte 0x1d ∷ t
 type_level (MVar n) = Byte 0x1e ∷ Number n ∷ []
@@ -88,7 +96,8 @@ abbrev pub symbols : SigTree → List Symbol
 symbols (Method m) = method_symbols m
 symbols (Field t) = Byte 0x06 ∷ type_symbols t
 symbols (Locals ts) = Byte 0x07 ∷ Number (length ts) ∷ all_symbols ts
-symbols (Property this t params) = Byte (0x08 + flag this 0x20) ∷ Number (length params) ∷ (type_symbols t ++ all_symbols params)
+symbols (Property this t params) =
+    Byte (0x08 + flag this 0x20) ∷ Number (length params) ∷ (type_symbols t ++ all_symbols params)
 symbols (MethodInst args) = Byte 0x0a ∷ Number (length args) ∷ all_symbols args
 symbols (Plain t) = type_symbols t
 

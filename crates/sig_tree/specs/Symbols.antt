@@ -1,19 +1,17 @@
 -- What a signature is spelled with: bytes, compressed numbers and type tokens (ECMA-335 II.23.2).
-use Rattle.std.specs.Prelude.{ℕ, ◌+◌, ◌*◌, ◌^◌, ◌==◌, ℤ, List, [], ◌∷◌, Option, Some, None, Bool, nat_lt, is_some, unwrap_or, option_map, option_and_then, if◌then◌else◌}
+use Rattle.std.specs.Prelude.{ℕ, ◌+◌, ◌*◌, ◌^◌, ◌==◌, List, [], ◌∷◌, Option, Some, None, Bool, nat_lt, is_some}
+use Rattle.std.specs.Prelude.{unwrap_or, option_map, option_and_then, if◌then◌else◌}
 use Rattle.std.specs.List.{flat_map}
+use Rattle.sig_tree.specs.declared.symbol.Symbol.{Symbol}
+use Rattle.sig_tree.specs.declared.symbol.Symbol.TheVariants.{Byte, Number, Signed, TypeToken}
 use Rattle.cil_base.specs.Token.{Token}
 use Rattle.cil_base.specs.Number.{strip_bytes, strip_number, spelled_number}
 use Rattle.cil_base.specs.Signed.{is_within, strip_signed, spelled_signed}
 
-pub data Symbol : Type 0 where
-  Byte : (b : ℕ) → Symbol
-  Number : (n : ℕ) → Symbol
-  Signed : (z : ℤ) → Symbol
-  TypeToken : (t : Token) → Symbol
-
 -- the tag of TypeDef, TypeRef and TypeSpec in a TypeDefOrRef coded index (II.24.2.6)
 abbrev pub tag_of : ℕ → Option ℕ
-tag_of table = if table == 0x02 then Some 0 else (if table == 0x01 then Some 1 else (if table == 0x1b then Some 2 else None))
+tag_of table =
+    if table == 0x02 then Some 0 else (if table == 0x01 then Some 1 else (if table == 0x1b then Some 2 else None))
 
 -- the number of a type token: the row above two bits of tag (II.23.2.8)
 abbrev pub coded_token : Token → Option ℕ

@@ -1,12 +1,12 @@
-ghost use Rattle.std.specs.Prelude.{◌≡◌, ◌∷◌, ◌<◌, ◌^◌, length, IfOk};
+ghost use Rattle.std.specs.Prelude.{◌≡◌, ◌∷◌, ◌<◌, ◌^◌, ◌==◌, length, Some, None, IfOk, if◌then◌else◌};
 ghost use Rattle.std.specs.Option.{option_and_then};
-ghost use Rattle.sig_tree.specs.Bounds.{Bounded};
-ghost use Rattle.sig_tree.specs.Reads.{Parses};
 ghost use Rattle.sig_tree.specs.Fronts.{wrap, counted_at};
-ghost use Rattle.sig_tree.specs.Parsing.{whole, type_at, property_at, method_at, ends_method, last_sentinel, sort_at, tree_at};
+ghost use Rattle.sig_tree.specs.TreeAt.{whole, property_at, ends_method, last_sentinel, sort_at, tree_at};
+ghost use Rattle.sig_tree.specs.Parsing.{type_sig_at, method_at};
 ghost use Rattle.sig_tree.specs.declared.tree.SigTree.TheVariants.{Field, Locals, Inst as MethodInst, Plain};
 
 use crate::bounds::DEPTH_LIMIT;
+use crate::element_type as el;
 use crate::read_number::read_number;
 use crate::read_type::{read_method, read_more, read_type, read_types};
 use crate::sig::Sig;
@@ -15,10 +15,10 @@ use cil_base::{List, NoMemory};
 use std::alloc::Global;
 
 /// The signature that the whole blob spells: a type alone where `plain` is true, as in a TypeSpec row, and else one of
-/// another sort. A number may stand in a longer form than it needs. None exactly where no signature of that sort, in its
-/// bounds, spells the blob (ECMA-335 II.23.2).
+/// another sort. A number may stand in a longer form than it needs. None exactly where no signature of that sort, in
+/// its bounds, spells the blob (ECMA-335 II.23.2).
 pub fn parse_sig(alloc: Global, plain: bool, blob: &[u8]) -> Result<Option<Sig>, NoMemory>
-    ensures { IfOk result (λ found. Parses plain blob.now found) }
+    ensures { IfOk result (λ found. found ≡ tree_at plain blob.now) }
 {
     match parse_tree(alloc, plain, blob)? {
         Some(tree) => Ok(Some(Sig::of_bounded(tree))),
@@ -26,7 +26,8 @@ pub fn parse_sig(alloc: Global, plain: bool, blob: &[u8]) -> Result<Option<Sig>,
     }
 }
 
-#[tactic(auto, unfolding(crate::specs::Parsing::tree_at))]
+/// The tree that the whole blob spells.
+#[tactic(auto, unfolding(crate::specs::TreeAt::tree_at))]
 fn parse_tree(alloc: Global, plain: bool, blob: &[u8]) -> Result<Option<SigTree>, NoMemory>
     ensures { IfOk result (λ found. found ≡ tree_at plain blob.now) }
 {
@@ -40,7 +41,7 @@ fn parse_tree(alloc: Global, plain: bool, blob: &[u8]) -> Result<Option<SigTree>
 }
 
 /// A blob of any sort but a type alone, by its first byte.
-#[tactic(auto, unfolding(crate::specs::Parsing::sort_at))]
+#[tactic(auto, unfolding(crate::specs::TreeAt::sort_at))]
 fn parse_sort(
     alloc: Global,
     head: u8,
@@ -51,75 +52,56 @@ fn parse_sort(
     ensures { IfOk result (λ found. found ≡ sort_at head rest.now) }
 {
     match head {
-        0x06 => parse_field(alloc, rest),
-        0x07 => parse_locals(alloc, rest),
-        0x08 => parse_property(alloc, false, rest),
-        0x28 => parse_property(alloc, true, rest),
-        0x0a => parse_inst(alloc, rest),
+        el::FIELD => parse_field(alloc, rest),
+        el::LOCAL_SIG => parse_locals(alloc, rest),
+        el::PROPERTY => parse_property(alloc, false, rest),
+        el::PROPERTY_OF_INSTANCE => parse_property(alloc, true, rest),
+        el::METHOD_ARGUMENTS => parse_inst(alloc, rest),
         _ => parse_method(alloc, blob),
     }
 }
 
+/// A type alone.
 fn parse_plain(alloc: Global, bytes: &[u8]) -> Result<Option<SigTree>, NoMemory>
-    ensures { IfOk result (λ found. found ≡ whole (wrap Plain (type_at 64 bytes.now))) }
+    ensures { IfOk result (λ found. found ≡ whole (wrap Plain (type_sig_at 64 bytes.now))) }
 {
     match read_type(alloc, bytes, DEPTH_LIMIT)? {
-        Some((ty, rest)) => {
-            if rest.is_empty() {
-                Ok(Some(SigTree::Plain(ty)))
-            } else {
-                Ok(None)
-            }
-        }
+        Some((ty, rest)) => Ok(alone(SigTree::Plain(ty), rest)),
         None => Ok(None),
     }
 }
 
+/// A field's signature after its first byte.
 fn parse_field(alloc: Global, bytes: &[u8]) -> Result<Option<SigTree>, NoMemory>
-    ensures { IfOk result (λ found. found ≡ whole (wrap Field (type_at 64 bytes.now))) }
+    ensures { IfOk result (λ found. found ≡ whole (wrap Field (type_sig_at 64 bytes.now))) }
 {
     match read_type(alloc, bytes, DEPTH_LIMIT)? {
-        Some((ty, rest)) => {
-            if rest.is_empty() {
-                Ok(Some(SigTree::Field(ty)))
-            } else {
-                Ok(None)
-            }
-        }
+        Some((ty, rest)) => Ok(alone(SigTree::Field(ty), rest)),
         None => Ok(None),
     }
 }
 
+/// Local variables after their first byte.
 fn parse_locals(alloc: Global, bytes: &[u8]) -> Result<Option<SigTree>, NoMemory>
-    ensures { IfOk result (λ found. found ≡ whole (wrap Locals (counted_at (type_at 64) bytes.now))) }
+    ensures { IfOk result (λ found. found ≡ whole (wrap Locals (counted_at (type_sig_at 64) bytes.now))) }
 {
     match read_types(alloc, bytes, DEPTH_LIMIT)? {
-        Some((types, rest)) => {
-            if rest.is_empty() {
-                Ok(Some(SigTree::Locals(types)))
-            } else {
-                Ok(None)
-            }
-        }
+        Some((types, rest)) => Ok(alone(SigTree::Locals(types), rest)),
         None => Ok(None),
     }
 }
 
+/// The arguments of a generic method after their first byte.
 fn parse_inst(alloc: Global, bytes: &[u8]) -> Result<Option<SigTree>, NoMemory>
-    ensures { IfOk result (λ found. found ≡ whole (wrap MethodInst (counted_at (type_at 64) bytes.now))) }
+    ensures { IfOk result (λ found. found ≡ whole (wrap MethodInst (counted_at (type_sig_at 64) bytes.now))) }
 {
     match read_types(alloc, bytes, DEPTH_LIMIT)? {
-        Some((args, rest)) => {
-            if rest.is_empty() {
-                Ok(Some(SigTree::Inst(args)))
-            } else {
-                Ok(None)
-            }
-        }
+        Some((args, rest)) => Ok(alone(SigTree::Inst(args), rest)),
         None => Ok(None),
     }
 }
 
+/// A property's signature after its first byte.
 fn parse_property(alloc: Global, this: bool, bytes: &[u8]) -> Result<Option<SigTree>, NoMemory>
     ensures { IfOk result (λ found. found ≡ whole (property_at this bytes.now)) }
 {
@@ -130,20 +112,22 @@ fn parse_property(alloc: Global, this: bool, bytes: &[u8]) -> Result<Option<SigT
         return Ok(None);
     };
     match read_more(alloc, List::new(alloc), bytes, count, DEPTH_LIMIT)? {
-        Some((params, rest)) => {
-            if rest.is_empty() {
-                Ok(Some(SigTree::Property { this, ty, params }))
-            } else {
-                Ok(None)
-            }
-        }
+        Some((params, rest)) => Ok(alone(SigTree::Property { this, ty, params }, rest)),
         None => Ok(None),
     }
 }
 
+/// The tree, where no byte is left after it.
+fn alone(tree: SigTree, rest: &[u8]) -> Option<SigTree>
+    ensures { result ≡ (if length rest.now == 0 then Some tree else None) }
+{
+    if rest.is_empty() { Some(tree) } else { None }
+}
+
+/// A method's signature, from its first byte on.
 #[tactic(auto, using(crate::proofs::Spellable::method_short))]
 fn parse_method(alloc: Global, blob: &[u8]) -> Result<Option<SigTree>, NoMemory>
-    ensures { IfOk result (λ found. found ≡ option_and_then ends_method (method_at (type_at 64) blob.now)) }
+    ensures { IfOk result (λ found. found ≡ option_and_then ends_method (method_at (type_sig_at 64) blob.now)) }
 {
     match read_method(alloc, blob, DEPTH_LIMIT)? {
         Some((method, rest)) => Ok(end_method(method, rest)),
@@ -158,11 +142,12 @@ fn end_method(method: MethodSig, rest: &[u8]) -> Option<SigTree>
 {
     match rest {
         [] => Some(SigTree::Method(method)),
-        [0x41] => end_with_sentinel(method),
+        [el::SENTINEL] => end_with_sentinel(method),
         _ => None,
     }
 }
 
+/// The method with a sentinel after its last parameter, where no other stands.
 fn end_with_sentinel(method: MethodSig) -> Option<SigTree>
     requires { length method.params < 2 ^ 29 }
     ensures { result ≡ last_sentinel method method.sentinel }

@@ -1,13 +1,15 @@
-ghost use Rattle.std.specs.Prelude.{◌≡◌, ◌++◌, [], map, codes, OnOk, if◌then◌else◌};
+ghost use Rattle.std.specs.Prelude.{◌≡◌, ◌++◌, ◌∷◌, [], map, codes, OnOk, if◌then◌else◌};
 ghost use Rattle.std.specs.Fmt.{decimal};
 ghost use Rattle.sig_tree.specs.Names.{prim_name, kind_name};
 ghost use Rattle.sig_tree.specs.Printed.{chars};
+ghost use Rattle.sig_tree.specs.declared.piece.Piece.TheVariants.{Name};
 
+use crate::element_type as el;
 use cil_base::{List, NoMemory, Token};
 use std::alloc::Global;
 
 /// A part of a printed signature: a character of ASCII, or the place of a type's name.
-#[derive(Clone, Copy, Debug, PartialEq, Eq)]
+#[derive(Clone, Copy)]
 pub(crate) enum Piece {
     Char(u8),
     Name(Token),
@@ -19,6 +21,27 @@ pub(crate) fn add_number(alloc: Global, number: u32, out: &mut List<Piece>) -> R
 {
     let text = format!(in alloc; "{}", number)?;
     add_text(out, text.as_bytes())
+}
+
+/// Adds a text and a number in decimal.
+pub(crate) fn add_numbered(
+    alloc: Global,
+    text: &[u8],
+    number: u32,
+    out: &mut List<Piece>,
+) -> Result<(), NoMemory>
+    ensures { OnOk result (out.new ≡ out.old ++ chars text.now ++ chars (decimal number)) }
+{
+    add_text(out, text)?;
+    add_number(alloc, number, out)
+}
+
+/// Adds a text and the place of a type's name.
+pub(crate) fn add_named(text: &[u8], of: &Token, out: &mut List<Piece>) -> Result<(), NoMemory>
+    ensures { OnOk result (out.new ≡ out.old ++ chars text.now ++ Name of.now ∷ []) }
+{
+    add_text(out, text)?;
+    out.push(Piece::Name(*of))
 }
 
 /// Adds a comma, except before the first item.
@@ -44,24 +67,24 @@ pub(crate) fn prim_name(code: u8) -> &'static [u8]
     ensures { result.now ≡ prim_name code }
 {
     match code {
-        0x01 => b"void",
-        0x02 => b"bool",
-        0x03 => b"char",
-        0x04 => b"i1",
-        0x05 => b"u1",
-        0x06 => b"i2",
-        0x07 => b"u2",
-        0x08 => b"i4",
-        0x09 => b"u4",
-        0x0a => b"i8",
-        0x0b => b"u8",
-        0x0c => b"r4",
-        0x0d => b"r8",
-        0x0e => b"string",
-        0x16 => b"typedref",
-        0x18 => b"iptr",
-        0x19 => b"uptr",
-        0x1c => b"object",
+        el::VOID => b"void",
+        el::BOOLEAN => b"bool",
+        el::CHAR => b"char",
+        el::I1 => b"i1",
+        el::U1 => b"u1",
+        el::I2 => b"i2",
+        el::U2 => b"u2",
+        el::I4 => b"i4",
+        el::U4 => b"u4",
+        el::I8 => b"i8",
+        el::U8 => b"u8",
+        el::R4 => b"r4",
+        el::R8 => b"r8",
+        el::STRING => b"string",
+        el::TYPEDBYREF => b"typedref",
+        el::I => b"iptr",
+        el::U => b"uptr",
+        el::OBJECT => b"object",
         _ => b"",
     }
 }

@@ -1,9 +1,12 @@
-ghost use Rattle.std.specs.Prelude.{◌≡◌, ◌++◌, ◌∷◌, [], ◌&&◌, map, length, codes, OnOk, IfOk, if◌then◌else◌, true, false};
+ghost use Rattle.std.specs.Prelude.{◌≡◌, ◌++◌, ◌∷◌, [], ◌&&◌, map, length, codes, OnOk, IfOk, if◌then◌else◌, true};
+ghost use Rattle.std.specs.Prelude.{false};
 ghost use Rattle.std.specs.Fmt.{decimal, signed_decimal};
 ghost use Rattle.sig_tree.specs.Spelling.{with_sentinel, sentinel_at, sentinel_stands};
 ghost use Rattle.sig_tree.specs.Printed.{chars, commas, arity_pieces, type_pieces, method_pieces, types_pieces, pieces};
 
-use crate::piece::{Piece, add_comma, add_number, add_text, kind_name, prim_name};
+use crate::piece::{
+    Piece, add_comma, add_named, add_number, add_numbered, add_text, kind_name, prim_name,
+};
 use crate::tree::{Arity, MethodSig, Sentinel, SigTree, TypeSig};
 use cil_base::{List, NoMemory};
 use std::alloc::Global;
@@ -17,6 +20,7 @@ pub(crate) fn sig_pieces(alloc: Global, sig: &SigTree) -> Result<List<Piece>, No
     Ok(out)
 }
 
+/// Adds the printed form of a signature.
 fn add_sig(alloc: Global, sig: &SigTree, out: &mut List<Piece>) -> Result<(), NoMemory>
     ensures { OnOk result (out.new ≡ out.old ++ pieces sig.now) }
 {
@@ -26,62 +30,32 @@ fn add_sig(alloc: Global, sig: &SigTree, out: &mut List<Piece>) -> Result<(), No
             add_text(out, b"field ")?;
             add_type(alloc, ty, out)
         }
-        SigTree::Locals(types) => {
-            add_text(out, b"locals(")?;
-            add_types(alloc, types.as_slice(), out)?;
-            add_text(out, b")")
-        }
+        SigTree::Locals(types) => add_bracketed(alloc, b"locals(", types.as_slice(), b")", out),
         SigTree::Property { this, ty, params } => {
             add_text(out, b"property ")?;
             add_text(out, if *this { b"instance " } else { b"" })?;
             add_type(alloc, ty, out)?;
-            add_text(out, b"(")?;
-            add_types(alloc, params.as_slice(), out)?;
-            add_text(out, b")")
+            add_bracketed(alloc, b"(", params.as_slice(), b")", out)
         }
-        SigTree::Inst(args) => {
-            add_text(out, b"inst<")?;
-            add_types(alloc, args.as_slice(), out)?;
-            add_text(out, b">")
-        }
+        SigTree::Inst(args) => add_bracketed(alloc, b"inst<", args.as_slice(), b">", out),
         SigTree::Plain(ty) => add_type(alloc, ty, out),
     }
 }
 
+/// Adds the printed form of a type.
 #[cycle(pieces)]
 fn add_type(alloc: Global, ty: &TypeSig, out: &mut List<Piece>) -> Result<(), NoMemory>
     ensures { OnOk result (out.new ≡ out.old ++ type_pieces ty.now) }
 {
     match ty {
         TypeSig::Prim(code) => add_text(out, prim_name(*code)),
-        TypeSig::Ptr(ty) => {
-            add_type(alloc, ty.get(), out)?;
-            add_text(out, b"*")
-        }
-        TypeSig::ByRef(ty) => {
-            add_type(alloc, ty.get(), out)?;
-            add_text(out, b"&")
-        }
-        TypeSig::Value(of) => {
-            add_text(out, b"valuetype ")?;
-            out.push(Piece::Name(*of))
-        }
-        TypeSig::Class(of) => {
-            add_text(out, b"class ")?;
-            out.push(Piece::Name(*of))
-        }
-        TypeSig::Var(number) => {
-            add_text(out, b"!")?;
-            add_number(alloc, *number, out)
-        }
-        TypeSig::MVar(number) => {
-            add_text(out, b"!!")?;
-            add_number(alloc, *number, out)
-        }
-        TypeSig::SzArray(ty) => {
-            add_type(alloc, ty.get(), out)?;
-            add_text(out, b"[]")
-        }
+        TypeSig::Ptr(inner) => add_followed(alloc, inner.get(), b"*", out),
+        TypeSig::ByRef(inner) => add_followed(alloc, inner.get(), b"&", out),
+        TypeSig::SzArray(inner) => add_followed(alloc, inner.get(), b"[]", out),
+        TypeSig::Value(of) => add_named(b"valuetype ", of, out),
+        TypeSig::Class(of) => add_named(b"class ", of, out),
+        TypeSig::Var(number) => add_numbered(alloc, b"!", *number, out),
+        TypeSig::MVar(number) => add_numbered(alloc, b"!!", *number, out),
         TypeSig::Array {
             elem,
             rank,
@@ -92,11 +66,8 @@ fn add_type(alloc: Global, ty: &TypeSig, out: &mut List<Piece>) -> Result<(), No
             add_shape(alloc, *rank, sizes.as_slice(), lows.as_slice(), out)
         }
         TypeSig::Inst { value, of, args } => {
-            add_text(out, if *value { b"valuetype " } else { b"class " })?;
-            out.push(Piece::Name(*of))?;
-            add_text(out, b"<")?;
-            add_types(alloc, args.as_slice(), out)?;
-            add_text(out, b">")
+            add_named(if *value { b"valuetype " } else { b"class " }, of, out)?;
+            add_bracketed(alloc, b"<", args.as_slice(), b">", out)
         }
         TypeSig::FnPtr(method) => {
             add_text(out, b"fnptr(")?;
@@ -108,18 +79,58 @@ fn add_type(alloc: Global, ty: &TypeSig, out: &mut List<Piece>) -> Result<(), No
             of,
             inner,
         } => {
-            add_text(out, if *required { b"modreq(" } else { b"modopt(" })?;
-            out.push(Piece::Name(*of))?;
-            add_text(out, b") ")?;
-            add_type(alloc, inner.get(), out)
+            add_named(if *required { b"modreq(" } else { b"modopt(" }, of, out)?;
+            add_preceded(alloc, b") ", inner.get(), out)
         }
-        TypeSig::Pinned(ty) => {
-            add_text(out, b"pinned ")?;
-            add_type(alloc, ty.get(), out)
-        }
+        TypeSig::Pinned(inner) => add_preceded(alloc, b"pinned ", inner.get(), out),
     }
 }
 
+/// Adds a text and the type after it.
+#[cycle(pieces)]
+fn add_preceded(
+    alloc: Global,
+    text: &[u8],
+    ty: &TypeSig,
+    out: &mut List<Piece>,
+) -> Result<(), NoMemory>
+    ensures { OnOk result (out.new ≡ out.old ++ chars text.now ++ type_pieces ty.now) }
+{
+    add_text(out, text)?;
+    add_type(alloc, ty, out)
+}
+
+/// Adds a type and the text after it.
+#[cycle(pieces)]
+fn add_followed(
+    alloc: Global,
+    ty: &TypeSig,
+    text: &[u8],
+    out: &mut List<Piece>,
+) -> Result<(), NoMemory>
+    ensures { OnOk result (out.new ≡ out.old ++ type_pieces ty.now ++ chars text.now) }
+{
+    add_type(alloc, ty, out)?;
+    add_text(out, text)
+}
+
+/// Adds types between two brackets.
+#[cycle(pieces)]
+fn add_bracketed(
+    alloc: Global,
+    left: &[u8],
+    types: &[TypeSig],
+    right: &[u8],
+    out: &mut List<Piece>,
+) -> Result<(), NoMemory>
+    ensures { OnOk result (out.new ≡ out.old ++ chars left.now ++ types_pieces types.now ++ chars right.now) }
+{
+    add_text(out, left)?;
+    add_types(alloc, types, out)?;
+    add_text(out, right)
+}
+
+/// Adds the printed form of a method's signature.
 #[cycle(pieces)]
 fn add_method(alloc: Global, method: &MethodSig, out: &mut List<Piece>) -> Result<(), NoMemory>
     ensures { OnOk result (out.new ≡ out.old ++ method_pieces method.now) }
@@ -142,7 +153,8 @@ fn add_params(
     sentinel: Sentinel,
     out: &mut List<Piece>,
 ) -> Result<(), NoMemory>
-    ensures { OnOk result (out.new ≡ out.old ++ commas true (with_sentinel sentinel (chars (codes "...")) 0 (map type_pieces params.now))) }
+    ensures { OnOk result (out.new ≡ out.old
+        ++ commas true (with_sentinel sentinel (chars (codes "...")) 0 (map type_pieces params.now))) }
 {
     let mut first = true;
     for (number, ty) in params.iter().enumerate() {
@@ -177,7 +189,8 @@ fn add_shape(
     lows: &[i32],
     out: &mut List<Piece>,
 ) -> Result<(), NoMemory>
-    ensures { OnOk result (out.new ≡ out.old ++ chars (codes "[") ++ chars (decimal rank) ++ chars (codes ";") ++ commas true (map (λ n. chars (decimal n)) sizes.now)
+    ensures { OnOk result (out.new ≡ out.old ++ chars (codes "[") ++ chars (decimal rank) ++ chars (codes ";")
+        ++ commas true (map (λ n. chars (decimal n)) sizes.now)
         ++ chars (codes ";") ++ commas true (map (λ z. chars (signed_decimal z)) lows.now) ++ chars (codes "]")) }
 {
     add_text(out, b"[")?;
@@ -189,6 +202,7 @@ fn add_shape(
     add_text(out, b"]")
 }
 
+/// Adds sizes with a comma between each two.
 fn add_sizes(alloc: Global, sizes: &[u32], out: &mut List<Piece>) -> Result<(), NoMemory>
     ensures { OnOk result (out.new ≡ out.old ++ commas true (map (λ n. chars (decimal n)) sizes.now)) }
 {
@@ -201,6 +215,7 @@ fn add_sizes(alloc: Global, sizes: &[u32], out: &mut List<Piece>) -> Result<(), 
     Ok(())
 }
 
+/// Adds lowest indices with a comma between each two.
 fn add_lows(alloc: Global, lows: &[i32], out: &mut List<Piece>) -> Result<(), NoMemory>
     ensures { OnOk result (out.new ≡ out.old ++ commas true (map (λ z. chars (signed_decimal z)) lows.now)) }
 {
@@ -214,6 +229,7 @@ fn add_lows(alloc: Global, lows: &[i32], out: &mut List<Piece>) -> Result<(), No
     Ok(())
 }
 
+/// Adds the number of generic parameters, where there is one.
 fn add_arity(alloc: Global, arity: Arity, out: &mut List<Piece>) -> Result<(), NoMemory>
     ensures { OnOk result (out.new ≡ out.old ++ arity_pieces arity) }
 {
@@ -227,7 +243,8 @@ fn add_arity(alloc: Global, arity: Arity, out: &mut List<Piece>) -> Result<(), N
     }
 }
 
-/// Adds `...` where the sentinel stands before that number, and answers whether nothing stands before the next item yet.
+/// Adds `...` where the sentinel stands before that number, and answers whether nothing stands before the next item
+/// yet.
 fn add_sentinel(
     sentinel: Sentinel,
     number: usize,

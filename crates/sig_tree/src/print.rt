@@ -1,5 +1,5 @@
 ghost use Rattle.std.specs.Prelude.{◌≡◌, ◌++◌, ◌<◌, length, OnOk, IfOk};
-ghost use Rattle.sig_tree.specs.Printed.{printed, tokens, named, piece_text, filled};
+ghost use Rattle.sig_tree.specs.Printed.{printed, tokens, named_sig, piece_text, filled_pieces};
 
 use crate::piece::Piece;
 use crate::pieces::sig_pieces;
@@ -33,17 +33,19 @@ pub fn sig_tokens(alloc: Global, sig: &Sig) -> Result<List<Token>, NoMemory>
     Ok(out)
 }
 
-/// The printed form with the names in the places of the type tokens, in order. Asks for as many names as there are tokens.
+/// The printed form with the names in the places of the type tokens, in order. Asks for as many names as there are
+/// tokens.
 pub fn print_named(alloc: Global, sig: &Sig, names: &List<Bytes>) -> Result<Bytes, NoMemory>
     requires { length names.now ≡ length (tokens sig.now) }
-    ensures { IfOk result (λ text. text ≡ named sig.now names.now) }
+    ensures { IfOk result (λ text. text ≡ named_sig sig.now names.now) }
 {
     let pieces = sig_pieces(alloc, sig.tree())?;
     fill(alloc, pieces.as_slice(), names.as_slice())
 }
 
+/// The text of pieces, with the names in order in the places of the tokens.
 fn fill(alloc: Global, pieces: &[Piece], names: &[Bytes]) -> Result<Bytes, NoMemory>
-    ensures { IfOk result (λ text. text ≡ filled pieces.now names.now) }
+    ensures { IfOk result (λ text. text ≡ filled_pieces pieces.now names.now) }
 {
     let mut out = List::new(alloc);
     let mut left = names;
@@ -62,6 +64,7 @@ fn fill(alloc: Global, pieces: &[Piece], names: &[Bytes]) -> Result<Bytes, NoMem
     Ok(out)
 }
 
+/// Adds the text of a piece.
 fn add_piece(piece: &Piece, out: &mut Bytes) -> Result<(), NoMemory>
     ensures { OnOk result (out.new ≡ out.old ++ piece_text piece.now) }
 {

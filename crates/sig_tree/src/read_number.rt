@@ -1,14 +1,16 @@
 ghost use Rattle.std.specs.Prelude.{◌≡◌, IfOk};
 ghost use Rattle.cil_base.specs.inner.Reading.{compressed_at, signed_at};
-ghost use Rattle.sig_tree.specs.Fronts.{Finds, counted_at, many_at, type_token_at, fronted};
+ghost use Rattle.sig_tree.specs.inner.Found.{FindsFront, fronted};
+ghost use Rattle.sig_tree.specs.Fronts.{counted_at, many_at, type_token_at};
 
+use crate::element_type as el;
 use cil_base::{List, NoMemory, Token, read_compressed, read_signed};
 use std::alloc::Global;
 
 /// The number at the front of the bytes, and the bytes after it.
 #[tactic(auto, using(crate::proofs::Fuel::number_found, crate::proofs::Fuel::number_missing))]
 pub(crate) fn read_number(bytes: &[u8]) -> Option<(u32, &[u8])>
-    ensures { Finds result (compressed_at bytes.now) }
+    ensures { FindsFront result (compressed_at bytes.now) }
 {
     match read_compressed(bytes) {
         Some((number, len)) => Some((number, &bytes[len..])),
@@ -19,7 +21,7 @@ pub(crate) fn read_number(bytes: &[u8]) -> Option<(u32, &[u8])>
 /// The signed number at the front of the bytes, and the bytes after it.
 #[tactic(auto, using(crate::proofs::Fuel::low_found, crate::proofs::Fuel::low_missing))]
 fn read_low(bytes: &[u8]) -> Option<(i32, &[u8])>
-    ensures { Finds result (signed_at bytes.now) }
+    ensures { FindsFront result (signed_at bytes.now) }
 {
     match read_signed(bytes) {
         Some((low, len)) => Some((low, &bytes[len..])),
@@ -29,7 +31,7 @@ fn read_low(bytes: &[u8]) -> Option<(i32, &[u8])>
 
 /// The type token at the front of the bytes, and the bytes after it (ECMA-335 II.23.2.8).
 pub(crate) fn read_type_token(bytes: &[u8]) -> Option<(Token, &[u8])>
-    ensures { Finds result (type_token_at bytes.now) }
+    ensures { FindsFront result (type_token_at bytes.now) }
 {
     let Some((number, rest)) = read_number(bytes) else {
         return None;
@@ -39,9 +41,27 @@ pub(crate) fn read_type_token(bytes: &[u8]) -> Option<(Token, &[u8])>
         return None;
     }
     match number % 4 {
-        0 => Some((Token { table: 0x02, rid }, rest)),
-        1 => Some((Token { table: 0x01, rid }, rest)),
-        2 => Some((Token { table: 0x1b, rid }, rest)),
+        0 => Some((
+            Token {
+                table: el::TYPE_DEF,
+                rid,
+            },
+            rest,
+        )),
+        1 => Some((
+            Token {
+                table: el::TYPE_REF,
+                rid,
+            },
+            rest,
+        )),
+        2 => Some((
+            Token {
+                table: el::TYPE_SPEC,
+                rid,
+            },
+            rest,
+        )),
         _ => None,
     }
 }
@@ -52,7 +72,7 @@ pub(crate) fn read_numbers(
     alloc: Global,
     bytes: &[u8],
 ) -> Result<Option<(List<u32>, &[u8])>, NoMemory>
-    ensures { IfOk result (λ found. Finds found (counted_at compressed_at bytes.now)) }
+    ensures { IfOk result (λ found. FindsFront found (counted_at compressed_at bytes.now)) }
 {
     let Some((count, bytes)) = read_number(bytes) else {
         return Ok(None);
@@ -74,7 +94,7 @@ pub(crate) fn read_numbers(
 /// A count, and as many signed numbers.
 #[tactic(auto, using(crate::proofs::Fuel::fronted_more, crate::proofs::Fuel::fronted_none))]
 pub(crate) fn read_lows(alloc: Global, bytes: &[u8]) -> Result<Option<(List<i32>, &[u8])>, NoMemory>
-    ensures { IfOk result (λ found. Finds found (counted_at signed_at bytes.now)) }
+    ensures { IfOk result (λ found. FindsFront found (counted_at signed_at bytes.now)) }
 {
     let Some((count, bytes)) = read_number(bytes) else {
         return Ok(None);

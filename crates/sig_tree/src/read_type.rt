@@ -1,9 +1,13 @@
 ghost use Rattle.std.specs.Prelude.{◌≡◌, ◌∷◌, [], true, false, drop, IfOk, MatchOption};
 ghost use Rattle.sig_tree.specs.declared.tree.TypeSig.TheVariants.{FnPtr};
-ghost use Rattle.sig_tree.specs.Fronts.{Finds, many_at, counted_at, wrap, fronted};
-ghost use Rattle.sig_tree.specs.Parsing.{FindsParams, type_at, level_at, wrapped_at, array_at, inst_at, mod_at, method_at, convention_at, params_at, is_convention, marked};
+ghost use Rattle.sig_tree.specs.inner.Found.{FindsFront, fronted};
+ghost use Rattle.sig_tree.specs.Fronts.{many_at, counted_at, wrap};
+ghost use Rattle.sig_tree.specs.inner.Found.{FindsParams, marked};
+ghost use Rattle.sig_tree.specs.Parsing.{type_sig_at, level_at, wrapped_at, array_at, inst_at, mod_at, method_at};
+ghost use Rattle.sig_tree.specs.Parsing.{convention_at, params_at, is_convention};
 
 use crate::bounds::{is_kind, is_prim};
+use crate::element_type as el;
 use crate::read_leaf::{
     after_sentinel, first_byte, read_arity, read_class, read_kind, read_mvar, read_value, read_var,
 };
@@ -19,7 +23,7 @@ pub(crate) type Found<'a, T> = Result<Option<(T, &'a [u8])>, NoMemory>;
 #[cycle(read)]
 #[tactic(auto, using(crate::proofs::Fuel::type_at_step, crate::proofs::Fuel::type_at_empty, crate::proofs::Fuel::type_at_zero))]
 pub(crate) fn read_type(alloc: Global, bytes: &[u8], depth: u32) -> Found<'_, TypeSig>
-    ensures { IfOk result (λ found. Finds found (type_at depth bytes.now)) }
+    ensures { IfOk result (λ found. FindsFront found (type_sig_at depth bytes.now)) }
 {
     if depth == 0 {
         return Ok(None);
@@ -34,28 +38,29 @@ pub(crate) fn read_type(alloc: Global, bytes: &[u8], depth: u32) -> Found<'_, Ty
 #[cycle(read)]
 #[tactic(auto, unfolding(crate::specs::Parsing::level_at))]
 fn read_level(alloc: Global, head: u8, rest: &[u8], depth: u32) -> Found<'_, TypeSig>
-    ensures { IfOk result (λ found. Finds found (level_at (type_at depth) head rest.now)) }
+    ensures { IfOk result (λ found. FindsFront found (level_at (type_sig_at depth) head rest.now)) }
 {
     if is_prim(head) {
         return Ok(Some((TypeSig::Prim(head), rest)));
     }
     match head {
-        0x11 => Ok(read_value(rest)),
-        0x12 => Ok(read_class(rest)),
-        0x13 => Ok(read_var(rest)),
-        0x1e => Ok(read_mvar(rest)),
-        0x14 => read_array(alloc, rest, depth),
-        0x15 => read_inst(alloc, rest, depth),
-        0x1b => read_pointer(alloc, rest, depth),
-        0x1f => read_mod(alloc, true, rest, depth),
-        0x20 => read_mod(alloc, false, rest, depth),
+        el::VALUETYPE => Ok(read_value(rest)),
+        el::CLASS => Ok(read_class(rest)),
+        el::VAR => Ok(read_var(rest)),
+        el::MVAR => Ok(read_mvar(rest)),
+        el::ARRAY => read_array(alloc, rest, depth),
+        el::GENERICINST => read_inst(alloc, rest, depth),
+        el::FNPTR => read_pointer(alloc, rest, depth),
+        el::CMOD_REQD => read_mod(alloc, true, rest, depth),
+        el::CMOD_OPT => read_mod(alloc, false, rest, depth),
         _ => read_wrapped(alloc, head, rest, depth),
     }
 }
 
+/// The same, moved to the heap.
 #[cycle(read)]
 fn read_boxed(alloc: Global, bytes: &[u8], depth: u32) -> Found<'_, Boxed<TypeSig>>
-    ensures { IfOk result (λ found. Finds found (type_at depth bytes.now)) }
+    ensures { IfOk result (λ found. FindsFront found (type_sig_at depth bytes.now)) }
 {
     match read_type(alloc, bytes, depth)? {
         Some((ty, rest)) => Ok(Some((Boxed::new(alloc, ty)?, rest))),
@@ -63,27 +68,29 @@ fn read_boxed(alloc: Global, bytes: &[u8], depth: u32) -> Found<'_, Boxed<TypeSi
     }
 }
 
+/// A type after its first byte, where that is followed by one type alone.
 #[cycle(read)]
 fn read_wrapped(alloc: Global, head: u8, rest: &[u8], depth: u32) -> Found<'_, TypeSig>
-    ensures { IfOk result (λ found. Finds found (wrapped_at (type_at depth) head rest.now)) }
+    ensures { IfOk result (λ found. FindsFront found (wrapped_at (type_sig_at depth) head rest.now)) }
 {
-    if !matches!(head, 0x0f | 0x10 | 0x1d | 0x45) {
+    if !matches!(head, el::PTR | el::BYREF | el::SZARRAY | el::PINNED) {
         return Ok(None);
     }
     let Some((ty, rest)) = read_boxed(alloc, rest, depth)? else {
         return Ok(None);
     };
     match head {
-        0x0f => Ok(Some((TypeSig::Ptr(ty), rest))),
-        0x10 => Ok(Some((TypeSig::ByRef(ty), rest))),
-        0x1d => Ok(Some((TypeSig::SzArray(ty), rest))),
+        el::PTR => Ok(Some((TypeSig::Ptr(ty), rest))),
+        el::BYREF => Ok(Some((TypeSig::ByRef(ty), rest))),
+        el::SZARRAY => Ok(Some((TypeSig::SzArray(ty), rest))),
         _ => Ok(Some((TypeSig::Pinned(ty), rest))),
     }
 }
 
+/// An array after its first byte (ECMA-335 II.23.2.13).
 #[cycle(read)]
 fn read_array(alloc: Global, bytes: &[u8], depth: u32) -> Found<'_, TypeSig>
-    ensures { IfOk result (λ found. Finds found (array_at (type_at depth) bytes.now)) }
+    ensures { IfOk result (λ found. FindsFront found (array_at (type_sig_at depth) bytes.now)) }
 {
     let Some((elem, bytes)) = read_boxed(alloc, bytes, depth)? else {
         return Ok(None);
@@ -108,9 +115,10 @@ fn read_array(alloc: Global, bytes: &[u8], depth: u32) -> Found<'_, TypeSig>
     )))
 }
 
+/// A generic type with its arguments, after its first byte.
 #[cycle(read)]
 fn read_inst(alloc: Global, bytes: &[u8], depth: u32) -> Found<'_, TypeSig>
-    ensures { IfOk result (λ found. Finds found (inst_at (type_at depth) bytes.now)) }
+    ensures { IfOk result (λ found. FindsFront found (inst_at (type_sig_at depth) bytes.now)) }
 {
     let Some((value, bytes)) = read_kind(bytes) else {
         return Ok(None);
@@ -124,9 +132,10 @@ fn read_inst(alloc: Global, bytes: &[u8], depth: u32) -> Found<'_, TypeSig>
     Ok(Some((TypeSig::Inst { value, of, args }, bytes)))
 }
 
+/// A modified type after the first byte of its modifier (ECMA-335 II.23.2.7).
 #[cycle(read)]
 fn read_mod(alloc: Global, required: bool, bytes: &[u8], depth: u32) -> Found<'_, TypeSig>
-    ensures { IfOk result (λ found. Finds found (mod_at (type_at depth) required bytes.now)) }
+    ensures { IfOk result (λ found. FindsFront found (mod_at (type_sig_at depth) required bytes.now)) }
 {
     let Some((of, bytes)) = read_type_token(bytes) else {
         return Ok(None);
@@ -147,7 +156,7 @@ fn read_mod(alloc: Global, required: bool, bytes: &[u8], depth: u32) -> Found<'_
 /// A function pointer, whose parameters are not followed by a sentinel.
 #[cycle(read)]
 fn read_pointer(alloc: Global, bytes: &[u8], depth: u32) -> Found<'_, TypeSig>
-    ensures { IfOk result (λ found. Finds found (wrap FnPtr (method_at (type_at depth) bytes.now))) }
+    ensures { IfOk result (λ found. FindsFront found (wrap FnPtr (method_at (type_sig_at depth) bytes.now))) }
 {
     let Some((method, bytes)) = read_method(alloc, bytes, depth)? else {
         return Ok(None);
@@ -158,7 +167,7 @@ fn read_pointer(alloc: Global, bytes: &[u8], depth: u32) -> Found<'_, TypeSig>
 /// A method's signature, without a sentinel after its last parameter.
 #[cycle(read)]
 pub(crate) fn read_method(alloc: Global, bytes: &[u8], depth: u32) -> Found<'_, MethodSig>
-    ensures { IfOk result (λ found. Finds found (method_at (type_at depth) bytes.now)) }
+    ensures { IfOk result (λ found. FindsFront found (method_at (type_sig_at depth) bytes.now)) }
 {
     match bytes {
         [head, rest @ ..] => {
@@ -172,11 +181,12 @@ pub(crate) fn read_method(alloc: Global, bytes: &[u8], depth: u32) -> Found<'_, 
     }
 }
 
+/// A method's signature after its first byte.
 #[cycle(read)]
 fn read_convention(alloc: Global, head: u8, bytes: &[u8], depth: u32) -> Found<'_, MethodSig>
-    ensures { IfOk result (λ found. Finds found (convention_at (type_at depth) head bytes.now)) }
+    ensures { IfOk result (λ found. FindsFront found (convention_at (type_sig_at depth) head bytes.now)) }
 {
-    let Some((arity, bytes)) = read_arity(head / 0x10 % 2 == 1, bytes) else {
+    let Some((arity, bytes)) = read_arity(head / el::GENERIC % 2 == 1, bytes) else {
         return Ok(None);
     };
     let Some((count, bytes)) = read_number(bytes) else {
@@ -190,8 +200,8 @@ fn read_convention(alloc: Global, head: u8, bytes: &[u8], depth: u32) -> Found<'
     };
     let method = MethodSig {
         kind: head % 0x10,
-        this: head / 0x20 % 2 == 1,
-        explicit: head / 0x40 % 2 == 1,
+        this: head / el::HASTHIS % 2 == 1,
+        explicit: head / el::EXPLICITTHIS % 2 == 1,
         arity,
         ret,
         params,
@@ -209,7 +219,7 @@ fn read_params(
     count: u32,
     depth: u32,
 ) -> Result<Option<(List<TypeSig>, Sentinel, &[u8])>, NoMemory>
-    ensures { IfOk result (λ found. FindsParams found (params_at (type_at depth) 0 count bytes.now)) }
+    ensures { IfOk result (λ found. FindsParams found (params_at (type_sig_at depth) 0 count bytes.now)) }
 {
     let mut params = List::new(alloc);
     let mut rest = bytes;
@@ -238,7 +248,8 @@ fn read_marked(
     count: u32,
     depth: u32,
 ) -> Result<Option<(List<TypeSig>, Sentinel, &[u8])>, NoMemory>
-    ensures { IfOk result (λ found. FindsParams found (marked number (fronted before (many_at (type_at depth) count bytes.now)))) }
+    ensures { IfOk result (λ found. FindsParams found (marked number
+        (fronted before (many_at (type_sig_at depth) count bytes.now)))) }
 {
     match read_more(alloc, before, bytes, count, depth)? {
         Some((params, rest)) => Ok(Some((params, Sentinel::Before(number), rest))),
@@ -249,7 +260,7 @@ fn read_marked(
 /// A count, and as many types.
 #[cycle(read)]
 pub(crate) fn read_types(alloc: Global, bytes: &[u8], depth: u32) -> Found<'_, List<TypeSig>>
-    ensures { IfOk result (λ found. Finds found (counted_at (type_at depth) bytes.now)) }
+    ensures { IfOk result (λ found. FindsFront found (counted_at (type_sig_at depth) bytes.now)) }
 {
     match read_number(bytes) {
         Some((count, bytes)) => read_more(alloc, List::new(alloc), bytes, count, depth),
@@ -267,7 +278,7 @@ pub(crate) fn read_more(
     count: u32,
     depth: u32,
 ) -> Found<'_, List<TypeSig>>
-    ensures { IfOk result (λ found. Finds found (fronted before (many_at (type_at depth) count bytes.now))) }
+    ensures { IfOk result (λ found. FindsFront found (fronted before (many_at (type_sig_at depth) count bytes.now))) }
 {
     let mut types = before;
     let mut rest = bytes;

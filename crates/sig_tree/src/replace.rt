@@ -1,44 +1,32 @@
-ghost use Rattle.std.specs.Prelude.{◌≡◌, length, drop, map, IfOk, IsTrue};
+ghost use Rattle.std.specs.Prelude.{◌≡◌, length, drop, IfOk, IsTrue};
 ghost use Rattle.std.specs.List.{list_all};
-ghost use Rattle.sig_tree.specs.Symbols.{TypeToken, can_be_spelled};
 ghost use Rattle.sig_tree.specs.Printed.{tokens as own_tokens};
-ghost use Rattle.sig_tree.specs.Replaced.{Placed, next, type_with, method_with, types_with, replaced, names_type};
+ghost use Rattle.sig_tree.specs.inner.Placed.{Placed};
+ghost use Rattle.sig_tree.specs.Replaced.{next, type_with, method_with, types_with, inst_with, mod_with};
+ghost use Rattle.sig_tree.specs.Replaced.{pointer_with, replaced, names_type};
+ghost use Rattle.sig_tree.specs.declared.tree.TypeSig.TheVariants.{Array};
 
 use crate::sig::Sig;
 use crate::tree::{MethodSig, SigTree, TypeSig};
 use cil_base::{Boxed, List, NoMemory, Token};
 use std::alloc::Global;
 
-/// The signature with the i-th of the tokens in the place of the i-th of its own, as `sig_tokens` gives them. Asks for as
-/// many tokens as it has, each of TypeDef, TypeRef or TypeSpec.
+/// What was placed, and the tokens that are left.
+pub(crate) type Put<'a, T> = Result<(T, &'a [Token]), NoMemory>;
+
+/// The signature with the i-th of the tokens in the place of the i-th of its own, as `sig_tokens` gives them. Asks for
+/// as many tokens as it has, each of TypeDef, TypeRef or TypeSpec.
 pub fn with_tokens(alloc: Global, sig: &Sig, tokens: &List<Token>) -> Result<Sig, NoMemory>
     requires count { length tokens.now ≡ length (own_tokens sig.now) }
     requires types { IsTrue (list_all names_type tokens.now) }
     ensures { IfOk result (λ new. new ≡ replaced sig.now tokens.now) }
 {
-    all_spelled(tokens.as_slice());
     let tree = place_sig(alloc, sig.tree(), tokens.as_slice())?;
     Ok(Sig::of_bounded(tree))
 }
 
-/// Each type token can be spelled. Nothing is done: the proof reads each row number, which its type keeps below 2^24.
-fn all_spelled(tokens: &[Token])
-    requires { IsTrue (list_all names_type tokens.now) }
-    ensures { IsTrue (list_all can_be_spelled (map TypeToken tokens.now)) }
-{
-    for of in tokens {
-        one_spelled(of);
-    }
-}
-
-fn one_spelled(of: &Token)
-    requires { IsTrue (names_type of.now) }
-    ensures { IsTrue (can_be_spelled (TypeToken of.now)) }
-{
-    let _rid = of.rid;
-}
-
-fn place_sig(alloc: Global, sig: &SigTree, tokens: &[Token]) -> Result<SigTree, NoMemory>
+/// A signature with the tokens in the places of its own, as far as they go.
+pub(crate) fn place_sig(alloc: Global, sig: &SigTree, tokens: &[Token]) -> Result<SigTree, NoMemory>
     ensures { IfOk result (λ new. new ≡ replaced sig.now tokens.now) }
 {
     match sig {
@@ -76,11 +64,7 @@ fn place_sig(alloc: Global, sig: &SigTree, tokens: &[Token]) -> Result<SigTree, 
 
 /// A type with the first of the tokens in the places of its own, and the tokens that are left.
 #[cycle(place)]
-fn place_type<'a>(
-    alloc: Global,
-    ty: &TypeSig,
-    tokens: &'a [Token],
-) -> Result<(TypeSig, &'a [Token]), NoMemory>
+pub(crate) fn place_type<'a>(alloc: Global, ty: &TypeSig, tokens: &'a [Token]) -> Put<'a, TypeSig>
     ensures { IfOk result (λ placed. Placed placed (type_with ty.now tokens.now)) }
 {
     match ty {
@@ -89,22 +73,29 @@ fn place_type<'a>(
         TypeSig::MVar(number) => Ok((TypeSig::MVar(*number), tokens)),
         TypeSig::Value(of) => Ok((TypeSig::Value(next(of, tokens)), others(tokens))),
         TypeSig::Class(of) => Ok((TypeSig::Class(next(of, tokens)), others(tokens))),
-        TypeSig::Ptr(ty) => {
-            let (ty, rest) = place_boxed(alloc, ty.get(), tokens)?;
-            Ok((TypeSig::Ptr(ty), rest))
+        TypeSig::Inst { value, of, args } => place_inst(alloc, *value, of, args.as_slice(), tokens),
+        TypeSig::FnPtr(method) => place_pointer(alloc, method.get(), tokens),
+        TypeSig::Ptr(inner) => {
+            let (inner, rest) = place_boxed(alloc, inner.get(), tokens)?;
+            Ok((TypeSig::Ptr(inner), rest))
         }
-        TypeSig::ByRef(ty) => {
-            let (ty, rest) = place_boxed(alloc, ty.get(), tokens)?;
-            Ok((TypeSig::ByRef(ty), rest))
+        TypeSig::ByRef(inner) => {
+            let (inner, rest) = place_boxed(alloc, inner.get(), tokens)?;
+            Ok((TypeSig::ByRef(inner), rest))
         }
-        TypeSig::SzArray(ty) => {
-            let (ty, rest) = place_boxed(alloc, ty.get(), tokens)?;
-            Ok((TypeSig::SzArray(ty), rest))
+        TypeSig::SzArray(inner) => {
+            let (inner, rest) = place_boxed(alloc, inner.get(), tokens)?;
+            Ok((TypeSig::SzArray(inner), rest))
         }
-        TypeSig::Pinned(ty) => {
-            let (ty, rest) = place_boxed(alloc, ty.get(), tokens)?;
-            Ok((TypeSig::Pinned(ty), rest))
+        TypeSig::Pinned(inner) => {
+            let (inner, rest) = place_boxed(alloc, inner.get(), tokens)?;
+            Ok((TypeSig::Pinned(inner), rest))
         }
+        TypeSig::Mod {
+            required,
+            of,
+            inner,
+        } => place_mod(alloc, *required, of, inner.get(), tokens),
         TypeSig::Array {
             elem,
             rank,
@@ -112,69 +103,94 @@ fn place_type<'a>(
             lows,
         } => {
             let (elem, rest) = place_boxed(alloc, elem.get(), tokens)?;
-            let sizes = sizes.copy()?;
-            let lows = lows.copy()?;
-            Ok((
-                TypeSig::Array {
-                    elem,
-                    rank: *rank,
-                    sizes,
-                    lows,
-                },
-                rest,
-            ))
-        }
-        TypeSig::Inst { value, of, args } => {
-            let (args, rest) = place_types(alloc, args.as_slice(), others(tokens))?;
-            Ok((
-                TypeSig::Inst {
-                    value: *value,
-                    of: next(of, tokens),
-                    args,
-                },
-                rest,
-            ))
-        }
-        TypeSig::FnPtr(method) => {
-            let (method, rest) = place_method(alloc, method.get(), tokens)?;
-            Ok((TypeSig::FnPtr(Boxed::new(alloc, method)?), rest))
-        }
-        TypeSig::Mod {
-            required,
-            of,
-            inner,
-        } => {
-            let (inner, rest) = place_boxed(alloc, inner.get(), others(tokens))?;
-            Ok((
-                TypeSig::Mod {
-                    required: *required,
-                    of: next(of, tokens),
-                    inner,
-                },
-                rest,
-            ))
+            Ok((array(elem, *rank, sizes, lows)?, rest))
         }
     }
 }
 
+/// A function pointer.
 #[cycle(place)]
-fn place_boxed<'a>(
+fn place_pointer<'a>(alloc: Global, method: &MethodSig, tokens: &'a [Token]) -> Put<'a, TypeSig>
+    ensures { IfOk result (λ placed. Placed placed (pointer_with method.now tokens.now)) }
+{
+    let (method, rest) = place_method(alloc, method, tokens)?;
+    Ok((TypeSig::FnPtr(Boxed::new(alloc, method)?), rest))
+}
+
+/// An array of that element type, with copies of the sizes and lowest indices.
+fn array(
+    elem: Boxed<TypeSig>,
+    rank: u32,
+    sizes: &List<u32>,
+    lows: &List<i32>,
+) -> Result<TypeSig, NoMemory>
+    ensures { IfOk result (λ ty. ty ≡ Array elem rank sizes.now lows.now) }
+{
+    let sizes = sizes.copy()?;
+    let lows = lows.copy()?;
+    Ok(TypeSig::Array {
+        elem,
+        rank,
+        sizes,
+        lows,
+    })
+}
+
+/// A generic type, whose own token comes before those of its arguments.
+#[cycle(place)]
+fn place_inst<'a>(
     alloc: Global,
-    ty: &TypeSig,
+    value: bool,
+    of: &Token,
+    args: &[TypeSig],
     tokens: &'a [Token],
-) -> Result<(Boxed<TypeSig>, &'a [Token]), NoMemory>
+) -> Put<'a, TypeSig>
+    ensures { IfOk result (λ placed. Placed placed (inst_with value of.now args.now tokens.now)) }
+{
+    let of = next(of, tokens);
+    let (args, rest) = place_types(alloc, args, others(tokens))?;
+    Ok((TypeSig::Inst { value, of, args }, rest))
+}
+
+/// A modified type: the modifier's token comes before those of the type.
+#[cycle(place)]
+fn place_mod<'a>(
+    alloc: Global,
+    required: bool,
+    of: &Token,
+    inner: &TypeSig,
+    tokens: &'a [Token],
+) -> Put<'a, TypeSig>
+    ensures { IfOk result (λ placed. Placed placed (mod_with required of.now inner.now tokens.now)) }
+{
+    let of = next(of, tokens);
+    let (inner, rest) = place_boxed(alloc, inner, others(tokens))?;
+    Ok((
+        TypeSig::Mod {
+            required,
+            of,
+            inner,
+        },
+        rest,
+    ))
+}
+
+/// The same as `place_type`, moved to the heap.
+#[cycle(place)]
+fn place_boxed<'a>(alloc: Global, ty: &TypeSig, tokens: &'a [Token]) -> Put<'a, Boxed<TypeSig>>
     ensures { IfOk result (λ placed. Placed placed (type_with ty.now tokens.now)) }
 {
     let (ty, rest) = place_type(alloc, ty, tokens)?;
     Ok((Boxed::new(alloc, ty)?, rest))
 }
 
+/// A method's signature with the first of the tokens in the places of its own, and the tokens that are left.
 #[cycle(place)]
-fn place_method<'a>(
+pub(crate) fn place_method<'a>(
     alloc: Global,
     method: &MethodSig,
     tokens: &'a [Token],
-) -> Result<(MethodSig, &'a [Token]), NoMemory>
+) -> Put<'a, MethodSig>
     ensures { IfOk result (λ placed. Placed placed (method_with method.now tokens.now)) }
 {
     let (ret, rest) = place_type(alloc, &method.ret, tokens)?;
@@ -191,12 +207,9 @@ fn place_method<'a>(
     Ok((placed, rest))
 }
 
+/// Types with the first of the tokens in the places of their own, and the tokens that are left.
 #[cycle(place)]
-fn place_types<'a>(
-    alloc: Global,
-    types: &[TypeSig],
-    tokens: &'a [Token],
-) -> Result<(List<TypeSig>, &'a [Token]), NoMemory>
+fn place_types<'a>(alloc: Global, types: &[TypeSig], tokens: &'a [Token]) -> Put<'a, List<TypeSig>>
     ensures { IfOk result (λ placed. Placed placed (types_with types.now tokens.now)) }
 {
     let mut all = List::new(alloc);

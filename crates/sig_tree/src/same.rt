@@ -1,5 +1,5 @@
 ghost use Rattle.std.specs.Prelude.{◌≡◌, ◌↔◌, IsTrue};
-ghost use Rattle.sig_tree.specs.declared.tree.TypeSig.TheVariants.{Prim, Ptr, ByRef, Value, Class, Var, MVar, SzArray, Array, Inst, FnPtr, Mod, Pinned};
+ghost use Rattle.sig_tree.specs.declared.tree.TypeSig.TheVariants.{Array, Inst, Mod};
 
 use crate::sig::Sig;
 use crate::tree::{Arity, MethodSig, Sentinel, SigTree, TypeSig};
@@ -12,6 +12,7 @@ pub fn same_sig(a: &Sig, b: &Sig) -> bool
     same_tree(a.tree(), b.tree())
 }
 
+/// Whether two trees are one.
 fn same_tree(a: &SigTree, b: &SigTree) -> bool
     ensures { IsTrue result ↔ (a.now ≡ b.now) }
 {
@@ -39,131 +40,45 @@ fn same_tree(a: &SigTree, b: &SigTree) -> bool
     }
 }
 
+/// Whether two types are one.
 #[cycle(same)]
 fn same_type(a: &TypeSig, b: &TypeSig) -> bool
     ensures { IsTrue result ↔ (a.now ≡ b.now) }
 {
-    match a {
-        TypeSig::Prim(code) => same_prim(*code, b),
-        TypeSig::Ptr(ty) => same_ptr(ty.get(), b),
-        TypeSig::ByRef(ty) => same_by_ref(ty.get(), b),
-        TypeSig::Value(of) => same_value(of, b),
-        TypeSig::Class(of) => same_class(of, b),
-        TypeSig::Var(number) => same_var(*number, b),
-        TypeSig::MVar(number) => same_mvar(*number, b),
-        TypeSig::SzArray(ty) => same_sz_array(ty.get(), b),
-        TypeSig::Array {
-            elem,
-            rank,
-            sizes,
-            lows,
-        } => same_array(elem.get(), *rank, sizes, lows, b),
-        TypeSig::Inst { value, of, args } => same_inst(*value, of, args.as_slice(), b),
-        TypeSig::FnPtr(method) => same_fn_ptr(method.get(), b),
-        TypeSig::Mod {
-            required,
-            of,
-            inner,
-        } => same_mod(*required, of, inner.get(), b),
-        TypeSig::Pinned(ty) => same_pinned(ty.get(), b),
-    }
-}
-
-#[cycle(same)]
-fn same_ptr(x: &TypeSig, b: &TypeSig) -> bool
-    ensures { IsTrue result ↔ (Ptr x.now ≡ b.now) }
-{
-    match b {
-        TypeSig::Ptr(y) => same_type(x, y.get()),
+    match (a, b) {
+        (TypeSig::Prim(x), TypeSig::Prim(y)) => *x == *y,
+        (TypeSig::Value(x), TypeSig::Value(y)) => same_token(x, y),
+        (TypeSig::Class(x), TypeSig::Class(y)) => same_token(x, y),
+        (TypeSig::Var(x), TypeSig::Var(y)) => *x == *y,
+        (TypeSig::MVar(x), TypeSig::MVar(y)) => *x == *y,
+        (TypeSig::Ptr(x), TypeSig::Ptr(y)) => same_type(x.get(), y.get()),
+        (TypeSig::ByRef(x), TypeSig::ByRef(y)) => same_type(x.get(), y.get()),
+        (TypeSig::SzArray(x), TypeSig::SzArray(y)) => same_type(x.get(), y.get()),
+        (TypeSig::Pinned(x), TypeSig::Pinned(y)) => same_type(x.get(), y.get()),
+        (TypeSig::FnPtr(x), TypeSig::FnPtr(y)) => same_method(x.get(), y.get()),
+        (
+            TypeSig::Array {
+                elem,
+                rank,
+                sizes,
+                lows,
+            },
+            _,
+        ) => same_array(elem.get(), *rank, sizes, lows, b),
+        (TypeSig::Inst { value, of, args }, _) => same_inst(*value, of, args.as_slice(), b),
+        (
+            TypeSig::Mod {
+                required,
+                of,
+                inner,
+            },
+            _,
+        ) => same_mod(*required, of, inner.get(), b),
         _ => false,
     }
 }
 
-#[cycle(same)]
-fn same_by_ref(x: &TypeSig, b: &TypeSig) -> bool
-    ensures { IsTrue result ↔ (ByRef x.now ≡ b.now) }
-{
-    match b {
-        TypeSig::ByRef(y) => same_type(x, y.get()),
-        _ => false,
-    }
-}
-
-#[cycle(same)]
-fn same_sz_array(x: &TypeSig, b: &TypeSig) -> bool
-    ensures { IsTrue result ↔ (SzArray x.now ≡ b.now) }
-{
-    match b {
-        TypeSig::SzArray(y) => same_type(x, y.get()),
-        _ => false,
-    }
-}
-
-#[cycle(same)]
-fn same_pinned(x: &TypeSig, b: &TypeSig) -> bool
-    ensures { IsTrue result ↔ (Pinned x.now ≡ b.now) }
-{
-    match b {
-        TypeSig::Pinned(y) => same_type(x, y.get()),
-        _ => false,
-    }
-}
-
-#[cycle(same)]
-fn same_fn_ptr(x: &MethodSig, b: &TypeSig) -> bool
-    ensures { IsTrue result ↔ (FnPtr x.now ≡ b.now) }
-{
-    match b {
-        TypeSig::FnPtr(y) => same_method(x, y.get()),
-        _ => false,
-    }
-}
-
-fn same_value(x: &Token, b: &TypeSig) -> bool
-    ensures { IsTrue result ↔ (Value x.now ≡ b.now) }
-{
-    match b {
-        TypeSig::Value(y) => same_token(x, y),
-        _ => false,
-    }
-}
-
-fn same_class(x: &Token, b: &TypeSig) -> bool
-    ensures { IsTrue result ↔ (Class x.now ≡ b.now) }
-{
-    match b {
-        TypeSig::Class(y) => same_token(x, y),
-        _ => false,
-    }
-}
-
-fn same_prim(x: u8, b: &TypeSig) -> bool
-    ensures { IsTrue result ↔ (Prim x ≡ b.now) }
-{
-    match b {
-        TypeSig::Prim(y) => x == *y,
-        _ => false,
-    }
-}
-
-fn same_var(x: u32, b: &TypeSig) -> bool
-    ensures { IsTrue result ↔ (Var x ≡ b.now) }
-{
-    match b {
-        TypeSig::Var(y) => x == *y,
-        _ => false,
-    }
-}
-
-fn same_mvar(x: u32, b: &TypeSig) -> bool
-    ensures { IsTrue result ↔ (MVar x ≡ b.now) }
-{
-    match b {
-        TypeSig::MVar(y) => x == *y,
-        _ => false,
-    }
-}
-
+/// Whether a type is an array of these parts.
 #[cycle(same)]
 fn same_array(elem: &TypeSig, rank: u32, sizes: &List<u32>, lows: &List<i32>, b: &TypeSig) -> bool
     ensures { IsTrue result ↔ (Array elem.now rank sizes.now lows.now ≡ b.now) }
@@ -184,6 +99,7 @@ fn same_array(elem: &TypeSig, rank: u32, sizes: &List<u32>, lows: &List<i32>, b:
     }
 }
 
+/// Whether a type is a generic type of these parts.
 #[cycle(same)]
 fn same_inst(value: bool, of: &Token, args: &[TypeSig], b: &TypeSig) -> bool
     ensures { IsTrue result ↔ (Inst value of.now args.now ≡ b.now) }
@@ -198,6 +114,7 @@ fn same_inst(value: bool, of: &Token, args: &[TypeSig], b: &TypeSig) -> bool
     }
 }
 
+/// Whether a type is a modified type of these parts.
 #[cycle(same)]
 fn same_mod(required: bool, of: &Token, inner: &TypeSig, b: &TypeSig) -> bool
     ensures { IsTrue result ↔ (Mod required of.now inner.now ≡ b.now) }
@@ -212,6 +129,7 @@ fn same_mod(required: bool, of: &Token, inner: &TypeSig, b: &TypeSig) -> bool
     }
 }
 
+/// Whether two methods' signatures are one.
 #[cycle(same)]
 fn same_method(a: &MethodSig, b: &MethodSig) -> bool
     ensures { IsTrue result ↔ (a.now ≡ b.now) }
@@ -225,6 +143,7 @@ fn same_method(a: &MethodSig, b: &MethodSig) -> bool
         && same_types(a.params.as_slice(), b.params.as_slice())
 }
 
+/// Whether two rows of types are one.
 #[cycle(same)]
 fn same_types(a: &[TypeSig], b: &[TypeSig]) -> bool
     ensures { IsTrue result ↔ (a.now ≡ b.now) }
@@ -244,12 +163,14 @@ fn same_types(a: &[TypeSig], b: &[TypeSig]) -> bool
     others.is_empty()
 }
 
+/// Whether two tokens are one.
 fn same_token(x: &Token, y: &Token) -> bool
     ensures { IsTrue result ↔ (x.now ≡ y.now) }
 {
     x.table == y.table && x.rid == y.rid
 }
 
+/// Whether two arities are one.
 fn same_arity(x: Arity, y: Arity) -> bool
     ensures { IsTrue result ↔ (x ≡ y) }
 {
@@ -259,6 +180,7 @@ fn same_arity(x: Arity, y: Arity) -> bool
     }
 }
 
+/// Whether two sentinels stand at one place.
 fn same_sentinel(x: Sentinel, y: Sentinel) -> bool
     ensures { IsTrue result ↔ (x ≡ y) }
 {
@@ -268,12 +190,14 @@ fn same_sentinel(x: Sentinel, y: Sentinel) -> bool
     }
 }
 
+/// Whether two rows of sizes are one.
 fn same_sizes(x: &List<u32>, y: &List<u32>) -> bool
     ensures { IsTrue result ↔ (x.now ≡ y.now) }
 {
     x.as_slice() == y.as_slice()
 }
 
+/// Whether two rows of lowest indices are one.
 fn same_lows(x: &List<i32>, y: &List<i32>) -> bool
     ensures { IsTrue result ↔ (x.now ≡ y.now) }
 {

@@ -1,7 +1,7 @@
 use cil_base::{Boxed, List, Token};
 
 /// A type (ECMA-335 II.23.2.12). Tokens are of TypeDef, TypeRef or TypeSpec in a signature that can be spelled.
-#[derive(Debug, Drop, PartialEq, Eq)]
+#[derive(Drop)]
 #[cycle(tree)]
 pub enum TypeSig {
     /// A type of one byte, by its element type: 01 to 0E, 16, 18, 19 or 1C (II.23.1.16).
@@ -37,7 +37,7 @@ pub enum TypeSig {
 }
 
 /// Whether a method has generic parameters, and how many.
-#[derive(Clone, Copy, Debug, PartialEq, Eq)]
+#[derive(Clone, Copy)]
 pub enum Arity {
     Plain,
     Generic(u32),
@@ -45,14 +45,14 @@ pub enum Arity {
 
 /// Where the variable part of the arguments begins: before the parameter of that number, counted from 0. The number of
 /// parameters stands for a sentinel after the last.
-#[derive(Clone, Copy, Debug, PartialEq, Eq)]
+#[derive(Clone, Copy)]
 pub enum Sentinel {
     None,
     Before(u32),
 }
 
 /// A method's signature (ECMA-335 II.23.2.1 to II.23.2.3).
-#[derive(Debug, Drop, PartialEq, Eq)]
+#[derive(Drop)]
 #[cycle(tree)]
 pub struct MethodSig {
     /// The calling convention: 0 to 5, or 9.
@@ -68,7 +68,7 @@ pub struct MethodSig {
 }
 
 /// A signature of any sort.
-#[derive(Debug, Drop, PartialEq, Eq)]
+#[derive(Drop)]
 pub enum SigTree {
     Method(MethodSig),
     Field(TypeSig),

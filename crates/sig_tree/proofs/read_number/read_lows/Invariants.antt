@@ -1,6 +1,7 @@
 use Rattle.std.proofs.Common.{◌≡◌, ◌-◌}
 use Rattle.cil_base.specs.inner.Reading.{signed_at}
-use Rattle.sig_tree.specs.Fronts.{many_at, fronted}
+use Rattle.sig_tree.specs.Fronts.{many_at}
+use Rattle.sig_tree.specs.inner.Found.{fronted}
 use Rattle.sig_tree.proofs.read_number.read_lows.Given as goal
 
 abbrev pub invariant-loop-index : goal.invariant-loop-index

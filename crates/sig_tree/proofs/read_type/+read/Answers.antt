@@ -1,5 +1,5 @@
 use Rattle.std.proofs.Common.{◌≡◌, ◌<◌, ◌-◌, suc, sym, ◌∙◌, arith}
-use Rattle.sig_tree.specs.Parsing.{type_at}
+use Rattle.sig_tree.specs.Parsing.{type_sig_at}
 use Rattle.sig_tree.proofs.Fuel.{type_at_step, params_marked}
 use Rattle.sig_tree.proofs.read_type.+read.Goals as goal
 
@@ -11,5 +11,5 @@ read_type-returns-in-Some t c =
 pub read_params-returns-in-Some : goal.read_params-returns-in-Some
 read_params-returns-in-Some t c =
     let left : c.args.count - c.loop-number.number ≡ suc (c.args.count - c.loop-number.number - 1) = omega arith in
-    rw (sym c.loop-number.invariant ∙ params_marked c.loop-number.params (type_at c.args.depth) c.loop-number.number (c.args.count - c.loop-number.number) (c.args.count - c.loop-number.number - 1) c.loop-number.rest.now c.in-Some.after.now c.in-Some.ensures.0 c.in-Some.ensures.1 left)
+    rw (sym c.loop-number.invariant ∙ params_marked c.loop-number.params (type_sig_at c.args.depth) c.loop-number.number (c.args.count - c.loop-number.number) (c.args.count - c.loop-number.number - 1) c.loop-number.rest.now c.in-Some.after.now c.in-Some.ensures.0 c.in-Some.ensures.1 left)
     c.read_marked.ensures

@@ -1,13 +1,15 @@
 use Rattle.std.proofs.Common.{◌≡◌, ◌+◌, ◌-◌, ◌*◌}
-use Rattle.sig_tree.specs.Fronts.{many_at, fronted}
-use Rattle.sig_tree.specs.Parsing.{params_at, fronted_params, type_at}
+use Rattle.sig_tree.specs.Fronts.{many_at}
+use Rattle.sig_tree.specs.inner.Found.{fronted}
+use Rattle.sig_tree.specs.Parsing.{params_at, type_sig_at}
+use Rattle.sig_tree.specs.inner.Found.{fronted_params}
 use Rattle.sig_tree.proofs.read_type.+read.Given as goal
 
 abbrev pub invariant-read_more-loop-index : goal.invariant-read_more-loop-index
-invariant-read_more-loop-index l = fronted l.types (many_at (type_at l.depth) (l.count - l.index) l.rest) ≡ fronted l.initial.types (many_at (type_at l.depth) l.count l.initial.rest)
+invariant-read_more-loop-index l = fronted l.types (many_at (type_sig_at l.depth) (l.count - l.index) l.rest) ≡ fronted l.initial.types (many_at (type_sig_at l.depth) l.count l.initial.rest)
 
 abbrev pub invariant-read_params-loop-number : goal.invariant-read_params-loop-number
-invariant-read_params-loop-number l = fronted_params l.params (params_at (type_at l.depth) l.number (l.count - l.number) l.rest) ≡ params_at (type_at l.depth) 0 l.count l.initial.rest
+invariant-read_params-loop-number l = fronted_params l.params (params_at (type_sig_at l.depth) l.number (l.count - l.number) l.rest) ≡ params_at (type_sig_at l.depth) 0 l.count l.initial.rest
 
 abbrev pub decreases-read_type : goal.decreases-read_type
 decreases-read_type l = 10 * l.depth
