@@ -1,0 +1,94 @@
+ghost use Rattle.std.specs.Prelude.{◌≡◌, ◌↔◌, IsTrue};
+ghost use Rattle.std.specs.List.{list_all};
+ghost use Rattle.sig_tree.specs.Replaced.{names_type};
+
+use crate::shown::shown;
+use crate::words::{bytes, names_from, tokens_from, word};
+use cil_base::{Bytes, List, NoMemory, Token};
+use sig_tree::{Sig, names_type, parse_sig, print_named, same_sig, sig_tokens, with_tokens};
+use std::alloc::Global;
+
+/// The signature whose sort and bytes these are.
+fn sig(alloc: Global, sort: &str, hex: &str) -> Result<Option<Sig>, NoMemory> {
+    let blob = bytes(alloc, hex)?;
+    parse_sig(alloc, sort == "type", blob.as_slice())
+}
+
+/// What is shown of a signature.
+pub(crate) fn read(alloc: Global, line: &str) -> Result<Bytes, NoMemory> {
+    match sig(alloc, word(line, 1), word(line, 2))? {
+        Some(sig) => shown(alloc, &sig),
+        None => List::from_slice(alloc, b"none"),
+    }
+}
+
+/// What is shown of its copy.
+pub(crate) fn copied(alloc: Global, line: &str) -> Result<Bytes, NoMemory> {
+    match sig(alloc, word(line, 1), word(line, 2))? {
+        Some(sig) => shown(alloc, &sig.copy(alloc)?),
+        None => List::from_slice(alloc, b"none"),
+    }
+}
+
+/// The printed form with other names.
+pub(crate) fn named(alloc: Global, line: &str) -> Result<Bytes, NoMemory> {
+    let Some(sig) = sig(alloc, word(line, 1), word(line, 2))? else {
+        return List::from_slice(alloc, b"none");
+    };
+    let names = names_from(alloc, line, 3)?;
+    let own = sig_tokens(alloc, &sig)?;
+    if names.len() == own.len() {
+        print_named(alloc, &sig, &names)
+    } else {
+        List::from_slice(alloc, b"count")
+    }
+}
+
+/// What is shown of a signature with other tokens.
+pub(crate) fn replaced(alloc: Global, line: &str) -> Result<Bytes, NoMemory> {
+    let Some(sig) = sig(alloc, word(line, 1), word(line, 2))? else {
+        return List::from_slice(alloc, b"none");
+    };
+    let tokens = tokens_from(alloc, line, 3)?;
+    let own = sig_tokens(alloc, &sig)?;
+    if tokens.len() == own.len() && all_name_types(tokens.as_slice()) {
+        shown(alloc, &with_tokens(alloc, &sig, &tokens)?)
+    } else {
+        List::from_slice(alloc, b"refused")
+    }
+}
+
+/// Whether a signature can name each of the tokens.
+fn all_name_types(tokens: &[Token]) -> bool
+    ensures { result ≡ list_all names_type tokens.now }
+{
+    for token in tokens {
+        if !names_type(token) {
+            return false;
+        }
+    }
+    true
+}
+
+/// Whether two signatures are one.
+pub(crate) fn compared(alloc: Global, line: &str) -> Result<Bytes, NoMemory> {
+    let a = sig(alloc, word(line, 1), word(line, 2))?;
+    let b = sig(alloc, word(line, 3), word(line, 4))?;
+    match (a, b) {
+        (Some(a), Some(b)) => {
+            if are_one(&a, &b) {
+                List::from_slice(alloc, b"same")
+            } else {
+                List::from_slice(alloc, b"other")
+            }
+        }
+        _ => List::from_slice(alloc, b"none"),
+    }
+}
+
+/// Whether two signatures are one, in both directions.
+fn are_one(a: &Sig, b: &Sig) -> bool
+    ensures { IsTrue result ↔ (a.now ≡ b.now) }
+{
+    same_sig(a, b)
+}
