@@ -3,8 +3,8 @@ use Rattle.std.proofs.Common.{◌≡◌, refl, ℕ, ◌^◌, ◌<◌, Bool, true
 use Rattle.std.specs.List.{list_all, range_with_len}
 use Rattle.std.proofs.lemmas.Bool.Decides.{nat_tests}
 use Rattle.std.proofs.lemmas.List.Folds.{list_all_at}
-use Rattle.pe_image.specs.Places.{first, stands}
-use Rattle.pe_image.specs.Layout.{layout}
+use Rattle.pe_image.specs.Places.{first_refusal, stands}
+use Rattle.pe_image.specs.Layout.{pe_layout}
 use Rattle.pe_image.specs.Rows.{RowsRefusal, UnsupportedTable, BadHeapSizes, BadTables, row_count, rows_place, rows_size, is_valid, has_header, heap_sizes, unsupported, has_rows, rows_conditions}
 use Rattle.pe_image.specs.Streams.{stream}
 use Rattle.pe_image.specs.Thin.{has_thin_rows, is_thin, thin_width}
@@ -20,7 +20,7 @@ right true y e = e
 right false y e = absurd cc
 
 -- where none of three conditions holds, the last does not
-third : (x y z : Bool) (e f g : RowsRefusal) → is_ok (first ((x, e) ∷ (y, f) ∷ (not z, g) ∷ []) true) ≡ true → z ≡ true
+third : (x y z : Bool) (e f g : RowsRefusal) → is_ok (first_refusal ((x, e) ∷ (y, f) ∷ (not z, g) ∷ []) true) ≡ true → z ≡ true
 third true y z e f g h = absurd cc
 third false true z e f g h = absurd cc
 third false false true e f g h = refl
@@ -45,7 +45,7 @@ accepted s e =
     right (has_header s) (has_rows (thin_width s) s)
     (third (has_header s && is_some (unsupported s)) (has_header s && nat_le 8 (heap_sizes s)) (has_header s && has_rows (thin_width s) s)
     (UnsupportedTable (unwrap_or (unsupported s) 0)) (BadHeapSizes (heap_sizes s)) BadTables
-    (left (is_ok (first (rows_conditions (thin_width s) s) true))
+    (left (is_ok (first_refusal (rows_conditions (thin_width s) s) true))
     (list_all (λ n. not (is_valid s n) || (n == 0) || (n == 2)) (range_with_len 0 64) && (heap_sizes s == 0)) e))
 
 few : (s : List ℕ) (w : ℕ → ℕ) → has_rows w s ≡ true → row_count s 2 < 2 ^ 24
@@ -59,4 +59,4 @@ pub thin_types : (b : List ℕ) → is_thin b ≡ true → rows b 2 < 2 ^ 24
 unfolding is_thin rows
 thin_types b e =
     few (stream b Tables) (thin_width (stream b Tables))
-    (accepted (stream b Tables) (right (is_ok (layout b)) (has_thin_rows (stream b Tables)) e))
+    (accepted (stream b Tables) (right (is_ok (pe_layout b)) (has_thin_rows (stream b Tables)) e))
