@@ -1,1 +1,5 @@
 pub mod Entries
+pub mod LaidHeaps
+pub mod Pools
+pub mod ReadBack
+pub mod inner

@@ -3,9 +3,12 @@
 #![tactic(auto)]
 
 mod blob;
+mod builder;
 mod guid;
+mod pool;
 mod text;
 
 pub use blob::blob_at;
+pub use builder::Heaps;
 pub use guid::{GuidAt, guid_at};
 pub use text::string_at;
