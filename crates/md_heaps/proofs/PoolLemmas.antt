@@ -1,16 +1,30 @@
 -- Where the entries of a pool stand.
-use Rattle.std.proofs.Common.{◌≡◌, ℕ, ◌+◌, List, [], ◌∷◌, ◌++◌, Bool, true, false, cond, length, map, refl, sym, ap, ◌∙◌, arith}
-use Rattle.std.specs.Prelude.{◌||◌, Option, Some, None, nat_eq, is_some}
+use Rattle.std.proofs.Common.{◌≡◌, ℕ, ◌+◌, List, [], ◌∷◌, ◌++◌, Bool, true, false, cond, length, map, refl, sym, ap, ◌∙◌, arith, eqb}
+use Rattle.std.specs.Prelude.{◌||◌, ◌&&◌, Option, Some, None, nat_eq, is_some}
 use Rattle.std.proofs.lemmas.List.{append_assoc, append-nil, length-append, map-append}
+use Rattle.std.proofs.lemmas.Bool.Decides.{nat_tests}
 use Rattle.std.specs.Map.{keys_of, lookup}
 use Rattle.std.specs.Cmp.Lexicographic.{pointwise}
 use Rattle.indexmap.specs.IndexMap.{insert_entry}
-use Rattle.md_heaps.specs.Pools.{has_entry, with_entry, entry_place, StandsAt, joined_entries}
+use Rattle.md_heaps.specs.Pools.{EntriesStay, StandsAt, entry_place, has_entry, joined_entries, with_entry}
 use Rattle.md_heaps.specs.inner.PoolMap.{IsPoolMap, kept_place, kept_with, placed_from}
 
 pub same_bytes : (entry : List ℕ) → pointwise nat_eq entry entry ≡ true
 same_bytes [] = refl
 same_bytes (byte ∷ entry) = grind (arith, same_bytes entry)
+
+-- entries that compare alike are one
+same_head : (x y : ℕ) (t : Bool) → eqb x y && t ≡ true → (x ≡ y) × (t ≡ true)
+same_head x y t h = (grind (arith, nat_tests), grind (arith, nat_tests))
+
+pub same_entry : (a b : List ℕ) → pointwise nat_eq a b ≡ true → a ≡ b
+same_entry [] [] h = refl
+same_entry [] (y ∷ b) h = absurd (cc)
+same_entry (x ∷ a) [] h = absurd (cc)
+same_entry (x ∷ a) (y ∷ b) h =
+    let (head, tests) = same_head x y (pointwise nat_eq a b) h in
+    let rest = same_entry a b tests in
+    cc
 
 -- the bytes of one entry more
 pub joined-push : (es : List (List ℕ)) (entry : List ℕ) → joined_entries (es ++ entry ∷ []) ≡ joined_entries es ++ entry
@@ -29,6 +43,30 @@ place-last (e ∷ es) entry new =
 pub has-last : (es : List (List ℕ)) (entry : List ℕ) → has_entry (es ++ entry ∷ []) entry ≡ true
 has-last [] entry = ap (λ b. b || false) (same_bytes entry)
 has-last (e ∷ es) entry = elim (pointwise nat_eq entry e) as (λ b. b || has_entry (es ++ entry ∷ []) entry ≡ true) [ true ↦ refl | false ↦ has-last es entry ]
+
+-- one entry more leaves the others where they are
+has-more : (es : List (List ℕ)) (one more : List ℕ) → has_entry es one ≡ true → has_entry (es ++ more ∷ []) one ≡ true
+has-more [] one more h = absurd (cc)
+has-more (e ∷ es) one more h =
+    elim (pointwise nat_eq one e) as (λ t. t || has_entry es one ≡ true → t || has_entry (es ++ more ∷ []) one ≡ true) [
+      | true ↦ λ _. refl
+      | false ↦ λ later. has-more es one more later
+    ] h
+
+place-more : (es : List (List ℕ)) (one more : List ℕ) → has_entry es one ≡ true → entry_place (es ++ more ∷ []) one ≡ entry_place es one
+place-more [] one more h = absurd (cc)
+place-more (e ∷ es) one more h =
+    elim (pointwise nat_eq one e) as (λ t. t || has_entry es one ≡ true → cond t 0 (length e + entry_place (es ++ more ∷ []) one) ≡ cond t 0 (length e + entry_place es one)) [
+      | true ↦ λ _. refl
+      | false ↦ λ later. ap (λ (n : ℕ). length e + n) (place-more es one more later)
+    ] h
+
+pub entries_stay : (es : List (List ℕ)) (more : List ℕ) → EntriesStay es (with_entry es more)
+entries_stay es more one place stands =
+    elim (has_entry es more) as (λ t. StandsAt (cond t es (es ++ more ∷ [])) one place) [
+      | true ↦ stands
+      | false ↦ (has-more es one more stands.0, stands.1 ∙ sym (place-more es one more stands.0))
+    ]
 
 -- the place that is found
 pub found-placed : (at : ℕ) (es : List (List ℕ)) (entry : List ℕ) → kept_place (placed_from at es) entry ≡ cond (has_entry es entry) (Some (at + entry_place es entry)) None

@@ -4,11 +4,12 @@
 
 mod blob;
 mod builder;
+mod content;
 mod guid;
 mod pool;
 mod text;
 
 pub use blob::blob_at;
-pub use builder::Heaps;
+pub use builder::{HeapBuilder, Heaps};
 pub use guid::{GuidAt, guid_at};
 pub use text::string_at;

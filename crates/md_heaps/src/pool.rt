@@ -1,5 +1,5 @@
 ghost use Rattle.std.specs.Prelude.{◌≡◌, [], IfOk, OnErr, OnOk};
-ghost use Rattle.md_heaps.specs.Pools.{StandsAt, heap_of_entries, joined_entries, with_entry};
+ghost use Rattle.md_heaps.specs.Pools.{EntriesStay, StandsAt, heap_of_entries, joined_entries, with_entry};
 ghost use Rattle.md_heaps.specs.inner.PoolMap.{kept_place, kept_with};
 
 use cil_base::{Bytes, List, NoMemory};
@@ -63,6 +63,7 @@ impl Pool {
     pub fn add(&mut self, entry: Bytes) -> Result<u64, NoMemory>
         ensures entries { OnOk result (self.new ≡ with_entry self.old entry) }
         ensures place { IfOk result (StandsAt self.new entry) }
+        ensures stays { OnOk result (EntriesStay self.old self.new) }
         ensures err { OnErr result (self.new ≡ self.old) }
     {
         let place = self.size;

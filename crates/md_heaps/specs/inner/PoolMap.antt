@@ -22,3 +22,12 @@ kept_place kept entry = lookup (pointwise nat_eq entry) kept
 -- what is kept once an entry is there: a new one goes last, with the place
 abbrev pub kept_with : List (List ℕ × ℕ) → List ℕ → ℕ → List (List ℕ × ℕ)
 kept_with kept entry place = if is_some (kept_place kept entry) then kept else insert_entry (pointwise nat_eq) kept entry place
+
+-- the first entry is a zero byte: that of the empty text, or of the empty blob
+abbrev pub BeginsWithZero : List (List ℕ) → Type 0
+BeginsWithZero entries = (rest : List (List ℕ)) × (entries ≡ (0 ∷ []) ∷ rest)
+
+-- each entry has sixteen bytes
+abbrev pub AreGuids : List (List ℕ) → Type 0
+AreGuids [] = Unit {0}
+AreGuids (first ∷ rest) = (length first ≡ 16) × AreGuids rest
