@@ -105,7 +105,7 @@ impl HeapBuilder {
         Ok(place / 16 + 1)
     }
 
-    /// The index of a user string, of its UTF-16 units, in #US, the same whenever it is put in. No string has index 0.
+    /// The index of a user string, of its UTF-16 units, in #US, the same whenever it is put in.
     /// `NoMemory` changes nothing.
     pub fn user(&mut self, units: &[u16]) -> Result<u64, NoMemory>
         requires { 2 * length units.now + 1 < 2 ^ 29 }
