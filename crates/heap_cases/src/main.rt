@@ -2,12 +2,12 @@
 //!
 //! | case | answer |
 //! |---|---|
-//! | `HEAP:CONTENT ..`, where HEAP is `text`, `user`, `guid` or `blob` | the index of each content, and the finished heaps #Strings, #US, #GUID and #Blob in hex |
-//! | `many COUNT DISTINCT` | for that many texts, so many of them distinct: how many were new, the size of #Strings, and the sum of the indexes |
+//! | `HEAP:CONTENT ..` | the index of each content, and the finished heaps #Strings, #US, #GUID and #Blob in hex |
+//! | `many COUNT DISTINCT` | how many texts were new, the size of #Strings, and the sum of the indexes |
 //!
-//! CONTENT is hex text, or `COUNT*HEX` for bytes repeated; those of a user string are its UTF-16 units, the low byte of
-//! each first. Of a heap past 64 bytes only the first 24 and the last 8 are printed, and its size. A line that is no case
-//! is answered by `no case`.
+//! HEAP is `text`, `user`, `guid` or `blob`. CONTENT is hex text, or `COUNT*HEX` for bytes repeated; those of a user string
+//! are its UTF-16 units, the low byte of each first. Of a heap past 64 bytes only the first 24 and the last 8 are printed,
+//! and its size. `many` puts COUNT texts in, of which DISTINCT differ. A line that is no case is answered by `no case`.
 #![tactic(auto)]
 
 mod case;

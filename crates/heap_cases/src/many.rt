@@ -23,7 +23,12 @@ impl Tally {
 }
 
 /// Puts so many texts in, `t` and a number below `distinct`.
-fn put_many(alloc: Global, heaps: &mut HeapBuilder, count: u32, distinct: u32) -> Result<Tally, NoMemory> {
+fn put_many(
+    alloc: Global,
+    heaps: &mut HeapBuilder,
+    count: u32,
+    distinct: u32,
+) -> Result<Tally, NoMemory> {
     let mut tally = Tally {
         distinct: 0,
         last: 0,

@@ -1,20 +1,19 @@
 -- Each content is read back from the heap of its entry.
-use Rattle.std.proofs.Common.{◌≡◌, ℕ, suc, ◌+◌, ◌-◌, ◌*◌, ◌/◌, ◌%◌, ◌<◌, ◌≤◌, ◌^◌, List, [], ◌∷◌, ◌++◌, Bool, true, false, cond, length, take, drop, refl, sym, ap, subst, ◌∙◌, arith, eqb, leb}
-use Rattle.std.specs.Prelude.{◌||◌, ◌&&◌, Option, Some, None, nat_eq}
+use Rattle.std.proofs.Common.{◌≡◌, ℕ, suc, ◌+◌, ◌-◌, ◌*◌, ◌/◌, ◌<◌, ◌≤◌, ◌^◌, List, [], ◌∷◌, ◌++◌, Bool, true, false, cond, length, take, drop, refl, sym, ap, ◌∙◌, arith, eqb, leb}
+use Rattle.std.specs.Prelude.{◌||◌, ◌&&◌, Some, None, nat_eq}
 use Rattle.std.proofs.lemmas.List.{append_assoc, length-append, length-drop, take_at, drop_at}
 use Rattle.std.proofs.lemmas.Bool.Decides.{nat_tests}
-use Rattle.std.specs.List.{flat_map, list_any}
+use Rattle.std.specs.List.{list_any}
 use Rattle.std.specs.Option.{option_map}
 use Rattle.std.specs.Cmp.Lexicographic.{pointwise}
-use Rattle.cil_base.specs.Heaps.{entry, first_bytes, even, units}
+use Rattle.cil_base.specs.Heaps.{entry, even, units}
 use Rattle.cil_base.specs.Number.{spelled_number}
 use Rattle.cil_base.proofs.EntryLemmas.{entry-stripped, strip-shorter, units-of}
 use Rattle.cil_base.proofs.NumberLemmas.{strip-spelled_number}
-use Rattle.md_heaps.specs.declared.guid.GuidAt.{GuidAt}
 use Rattle.md_heaps.specs.declared.guid.GuidAt.TheVariants.{Null, Is, Missing}
 use Rattle.md_heaps.specs.Entries.{before_zero, text, blob, guid}
 use Rattle.md_heaps.specs.Pools.{entry_place, has_entry, heap_of_entries, heap_padding, joined_entries, with_entry}
-use Rattle.md_heaps.specs.LaidHeaps.{IsGuidNumber, IsText, blob_entry, last_byte, text_entry, unit_bytes, user_entry}
+use Rattle.md_heaps.specs.LaidHeaps.{IsText, blob_entry, last_byte, text_entry, unit_bytes, user_entry}
 use Rattle.md_heaps.specs.ReadBack.{BlobsReadBack, GuidsReadBack, TextsReadBack, UsersReadBack}
 use Rattle.md_heaps.specs.inner.PoolMap.{AreGuids, BeginsWithZero}
 use Rattle.md_heaps.proofs.PoolLemmas.{same_entry}
@@ -50,11 +49,11 @@ behind-joined (e ∷ es) one h =
     elim (pointwise nat_eq one e) as (λ t. pointwise nat_eq one e ≡ t → t || has_entry es one ≡ true → Behind (e ++ joined_entries es) (cond t 0 (length e + entry_place es one)) one) [
       | true ↦ λ same _. record { before = []; after = joined_entries es; is = ap (λ s. s ++ joined_entries es) (sym (same_entry one e same)); at = refl }
       | false ↦ λ _ later. let rest = behind-joined es one later in record {
-          before = e ++ rest.before;
-          after = rest.after;
-          is = ap (λ s. e ++ s) rest.is ∙ sym (append_assoc e rest.before (one ++ rest.after));
-          at = length-append e rest.before ∙ ap (λ (n : ℕ). length e + n) rest.at;
-        }
+        before = e ++ rest.before;
+        after = rest.after;
+        is = ap (λ s. e ++ s) rest.is ∙ sym (append_assoc e rest.before (one ++ rest.after));
+        at = length-append e rest.before ∙ ap (λ (n : ℕ). length e + n) rest.at;
+      }
     ] refl h
 
 -- what stands in the heap from an entry's place on
@@ -63,7 +62,7 @@ heap-from es one h =
     let part = behind-joined es one h in
     let zeros = heap_padding (length (joined_entries es)) in
     let whole : heap_of_entries es ≡ part.before ++ (one ++ (part.after ++ zeros)) =
-        ap (λ s. s ++ zeros) part.is ∙ append_assoc part.before (one ++ part.after) zeros ∙ ap (λ s. part.before ++ s) (append_assoc one part.after zeros) in
+    ap (λ s. s ++ zeros) part.is ∙ append_assoc part.before (one ++ part.after) zeros ∙ ap (λ s. part.before ++ s) (append_assoc one part.after zeros) in
     (part.after ++ zeros, ap (drop (entry_place es one)) whole ∙ drop_at part.before (one ++ (part.after ++ zeros)) (entry_place es one) part.at)
 
 -- the first entry, and any other one

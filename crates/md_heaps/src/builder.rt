@@ -1,5 +1,6 @@
 ghost use Rattle.std.specs.Prelude.{◌≡◌, ◌+◌, ◌*◌, ◌<◌, ◌^◌, [], ◌∷◌, IfOk, OnErr, OnOk, length};
-ghost use Rattle.md_heaps.specs.LaidHeaps.{IsGuidNumber, IsText, blob_entry, first_entries, laid_heaps, text_entry, user_entry, with_blob, with_guid, with_text, with_user};
+ghost use Rattle.md_heaps.specs.LaidHeaps.{IsGuidNumber, IsText, blob_entry, text_entry, user_entry};
+ghost use Rattle.md_heaps.specs.LaidHeaps.{first_entries, laid_heaps, with_blob, with_guid, with_text, with_user};
 ghost use Rattle.md_heaps.specs.Pools.{EntriesStay, StandsAt};
 ghost use Rattle.md_heaps.specs.ReadBack.{BlobsReadBack, GuidsReadBack, TextsReadBack, UsersReadBack};
 
@@ -9,7 +10,8 @@ use cil_base::{Bytes, List, NoMemory};
 use std::alloc::Global;
 use std::marker::Model;
 
-/// Heaps while contents are put in. Contracts see the entries of each heap, each once, in the order of their first use.
+/// Heaps while contents are put in: each distinct content has one index, given at its first use. Contracts see the entries
+/// of each heap, as they stand in it, in the order of their first use.
 #[derive(Drop)]
 pub struct HeapBuilder {
     texts: Pool,
@@ -32,9 +34,13 @@ impl Model for HeapBuilder {
 /// The bytes of the heaps, each padded with zeros to a multiple of 4.
 #[derive(Drop)]
 pub struct Heaps {
+    /// #Strings
     pub strings: Bytes,
+    /// #US
     pub users: Bytes,
+    /// #GUID
     pub guids: Bytes,
+    /// #Blob
     pub blobs: Bytes,
 }
 
@@ -63,8 +69,8 @@ impl HeapBuilder {
         })
     }
 
-    /// The index of a text in #Strings, the same whenever it is put in. The empty text has index 0. `NoMemory` changes
-    /// nothing.
+    /// The index in #Strings of a text without a zero byte: the same whenever it is put in. `NoMemory` changes nothing
+    /// (ECMA-335 II.24.2.3).
     #[tactic(auto, using(crate::proofs::ReadLemmas::begins_with))]
     pub fn text(&mut self, text: &[u8]) -> Result<u64, NoMemory>
         requires { IsText text.now }
@@ -77,8 +83,8 @@ impl HeapBuilder {
         self.texts.add(entry)
     }
 
-    /// The index of a blob in #Blob, the same whenever it is put in. The empty blob has index 0. `NoMemory` changes
-    /// nothing.
+    /// The index in #Blob of a blob of fewer than 2^29 bytes: the same whenever it is put in. `NoMemory` changes nothing
+    /// (ECMA-335 II.24.2.4).
     #[tactic(auto, using(crate::proofs::ReadLemmas::begins_with))]
     pub fn blob(&mut self, blob: &[u8]) -> Result<u64, NoMemory>
         requires { length blob.now < 2 ^ 29 }
@@ -91,8 +97,8 @@ impl HeapBuilder {
         self.blobs.add(entry)
     }
 
-    /// The number of a GUID in #GUID, counted from 1, the same whenever it is put in: also of the one whose bytes are all
-    /// 0. `NoMemory` changes nothing.
+    /// The number of a GUID in #GUID, counted from 1: the same whenever it is put in. A GUID whose bytes are all 0 has a
+    /// number too. `NoMemory` changes nothing (ECMA-335 II.24.2.5).
     #[tactic(auto, using(crate::proofs::ReadLemmas::guids_with))]
     pub fn guid(&mut self, guid: [u8; 16]) -> Result<u64, NoMemory>
         ensures ok { OnOk result (self.new ≡ with_guid self.old guid) }
@@ -105,8 +111,8 @@ impl HeapBuilder {
         Ok(place / 16 + 1)
     }
 
-    /// The index of a user string, of its UTF-16 units, in #US, the same whenever it is put in.
-    /// `NoMemory` changes nothing.
+    /// The index in #US of a user string of fewer than 2^28 UTF-16 units: the same whenever it is put in. `NoMemory`
+    /// changes nothing (ECMA-335 II.24.2.4).
     pub fn user(&mut self, units: &[u16]) -> Result<u64, NoMemory>
         requires { 2 * length units.now + 1 < 2 ^ 29 }
         ensures ok { OnOk result (self.new ≡ with_user self.old units.now) }
@@ -118,7 +124,8 @@ impl HeapBuilder {
         self.users.add(entry)
     }
 
-    /// The heaps. Each content is read back at the index that was answered for it.
+    /// The heaps: the entries of each one after the other, and zeros up to a multiple of 4. Each content is read back at
+    /// the index that was answered for it.
     pub fn finish(self) -> Result<Heaps, NoMemory>
         ensures laid { IfOk result (λ heaps. heaps ≡ laid_heaps self) }
         ensures texts { IfOk result (λ heaps. TextsReadBack self.texts heaps.strings) }

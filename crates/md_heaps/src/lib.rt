@@ -1,5 +1,5 @@
-//! The heaps of the metadata: texts of #Strings, blobs of #Blob and GUIDs of #GUID, each by its index (ECMA-335 II.24.2.3
-//! to II.24.2.5). User strings are in `cil_base`, beside the numbers before them.
+//! The heaps of the metadata: texts of #Strings, blobs of #Blob and GUIDs of #GUID, each by its index, and the building of
+//! all four heaps (ECMA-335 II.24.2.3 to II.24.2.5). User strings are read in `cil_base`, beside the numbers before them.
 #![tactic(auto)]
 
 mod blob;

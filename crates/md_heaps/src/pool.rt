@@ -29,7 +29,11 @@ impl Model for Pool {
 
 /// The place that the map has for an entry. Where it has none the entry goes last, with `place`, and the answer is `None`.
 /// `NoMemory` changes nothing.
-fn find_or_put(places: &mut IndexMap<Bytes, u64>, entry: Bytes, place: u64) -> Result<Option<u64>, NoMemory>
+fn find_or_put(
+    places: &mut IndexMap<Bytes, u64>,
+    entry: Bytes,
+    place: u64,
+) -> Result<Option<u64>, NoMemory>
     ensures found { IfOk result (λ found. found ≡ kept_place places.old.entries entry) }
     ensures kept { OnOk result (places.new.entries ≡ kept_with places.old.entries entry place) }
     ensures err { OnErr result (places.new.entries ≡ places.old.entries) }
