@@ -1,7 +1,6 @@
 -- Instructions one after the other.
-use Rattle.std.proofs.Common.{◌≡◌, ◌==◌, ◌+◌, ◌*◌, ◌<◌, ◌≤◌, ◌++◌, ℕ, zero, suc, List, [], ◌∷◌, length, Bool, true, false, cond, Option, Some, None, refl, sym, ap, ◌∙◌, subst, arith, append_assoc, nat_lt, nat_le, get_or}
+use Rattle.std.proofs.Common.{◌≡◌, ◌==◌, ◌+◌, ◌*◌, ◌<◌, ◌≤◌, ℕ, zero, suc, List, [], ◌∷◌, length, Bool, true, false, cond, Option, Some, None, refl, sym, ap, ◌∙◌, subst, arith, nat_lt, nat_le, get_or}
 use Rattle.std.specs.Prelude.{option_map}
-use Rattle.std.proofs.lemmas.List.{append-nil}
 use Rattle.std.proofs.lemmas.Bool.{lt-ltb}
 use Rattle.std.proofs.lemmas.Bool.Decides.{nat_tests}
 use Rattle.byteorder.specs.Endian.{little_from}
@@ -9,9 +8,12 @@ use Rattle.il_code.specs.declared.kind.OperandKind as k
 use Rattle.il_code.specs.declared.kind.OperandKind.TheVariants as kind
 use Rattle.il_code.specs.declared.operand.Operand.{Operand}
 use Rattle.il_code.specs.declared.instr.Instr.{Instr}
-use Rattle.il_code.specs.Kinds.{kind_of}
-use Rattle.il_code.specs.Numbers.{◌>>=◌, number_at, items_at}
-use Rattle.il_code.specs.Code.{target_count, width_of, width_in, code_size, size_of, switch_target_at, operand_at, code_at, instr_of, instr_at, Stand}
+use Rattle.il_code.specs.Instructions.{kind_of}
+use Rattle.cil_base.specs.Place.{number_at, number_within}
+use Rattle.cil_base.proofs.PlaceLemmas.{IsBytes}
+use Rattle.cil_base.specs.Steps.{◌>>=◌}
+use Rattle.il_code.specs.Items.{items_at}
+use Rattle.il_code.specs.Code.{target_count, operand_width, width_in, code_size, size_of, switch_target_at, operand_at, code_at, instr_of, instr_at, Stand}
 
 -- a step that came to something
 pub record Came {A B : Type 0} (o : Option A) (f : A → Option B) (y : B) : Type 0 where
@@ -42,9 +44,9 @@ mapped f None y h = absurd (nothing h)
 mapped f (Some x) y h = record { by = x; first = refl; is = same_some _ _ h }
 
 -- a number that is there ends within the bytes
-pub number_within : (w : ℕ) (b : List ℕ) (p n : ℕ) → number_at w b p ≡ Some n → p + w ≤ length b
-unfolding number_at
-number_within w b p n h = inside (nat_le (p + w) (length b)) refl h
+pub number-ends : (w : ℕ) (b : List ℕ) (p n : ℕ) → number_within b p w ≡ Some n → p + w ≤ length b
+unfolding number_within number_at
+number-ends w b p n h = inside (nat_le (p + w) (length b)) refl h
   where
     inside : (t : Bool) → nat_le (p + w) (length b) ≡ t → cond t (Some (little_from p w b)) None ≡ Some n → p + w ≤ length b
     inside true e h = grind (arith, nat_tests)
@@ -57,33 +59,29 @@ targets_within b after p (suc n) ts q h =
     let first = came _ _ _ h in
     let number = came _ _ _ first.first in
     let rest = mapped _ _ _ first.after in
-    let here = number_within 4 b p number.by number.first in
+    let here = number-ends 4 b p number.by number.first in
     let there = targets_within b after (p + 4) n rest.by here rest.first in
     (omega (arith, there.0), ap length (sym rest.is) ∙ ap suc there.1)
 
--- each byte is below 256
-abbrev pub IsBytes : List ℕ → Type 0
-IsBytes b = (i : ℕ) → get_or b i 0 < 256
-
 -- an operand that is there ends within the code
-operand_within : (users b : List ℕ) (p : ℕ) (kind : k.OperandKind) (o : Operand) → p ≤ length b → operand_at users b p kind ≡ Some o → p + width_of kind o ≤ length b
+operand_within : (users b : List ℕ) (p : ℕ) (kind : k.OperandKind) (o : Operand) → p ≤ length b → operand_at users b p kind ≡ Some o → p + operand_width kind o ≤ length b
 unfolding operand_at
 operand_within users b p kind.NoOperand o q h = omega arith
-operand_within users b p kind.U8 o q h = let n = mapped _ _ _ h in number_within 1 b p n.by n.first
-operand_within users b p kind.U16 o q h = let n = mapped _ _ _ h in number_within 2 b p n.by n.first
-operand_within users b p kind.I8 o q h = let n = mapped _ _ _ h in number_within 1 b p n.by n.first
-operand_within users b p kind.I32 o q h = let n = mapped _ _ _ h in number_within 4 b p n.by n.first
-operand_within users b p kind.I64 o q h = let n = mapped _ _ _ h in number_within 8 b p n.by n.first
-operand_within users b p kind.R4 o q h = let n = mapped _ _ _ h in number_within 4 b p n.by n.first
-operand_within users b p kind.R8 o q h = let n = mapped _ _ _ h in number_within 8 b p n.by n.first
-operand_within users b p kind.Token o q h = let n = mapped _ _ _ h in number_within 4 b p n.by n.first
-operand_within users b p kind.Text o q h = let n = came _ _ _ h in number_within 4 b p n.by n.first
-operand_within users b p kind.ShortBranch o q h = let n = came _ _ _ h in number_within 1 b p n.by n.first
-operand_within users b p kind.Branch o q h = let n = came _ _ _ h in number_within 4 b p n.by n.first
+operand_within users b p kind.U8 o q h = let n = mapped _ _ _ h in number-ends 1 b p n.by n.first
+operand_within users b p kind.U16 o q h = let n = mapped _ _ _ h in number-ends 2 b p n.by n.first
+operand_within users b p kind.I8 o q h = let n = mapped _ _ _ h in number-ends 1 b p n.by n.first
+operand_within users b p kind.I32 o q h = let n = mapped _ _ _ h in number-ends 4 b p n.by n.first
+operand_within users b p kind.I64 o q h = let n = mapped _ _ _ h in number-ends 8 b p n.by n.first
+operand_within users b p kind.R4 o q h = let n = mapped _ _ _ h in number-ends 4 b p n.by n.first
+operand_within users b p kind.R8 o q h = let n = mapped _ _ _ h in number-ends 8 b p n.by n.first
+operand_within users b p kind.Token o q h = let n = mapped _ _ _ h in number-ends 4 b p n.by n.first
+operand_within users b p kind.Text o q h = let n = came _ _ _ h in number-ends 4 b p n.by n.first
+operand_within users b p kind.ShortBranch o q h = let n = came _ _ _ h in number-ends 1 b p n.by n.first
+operand_within users b p kind.Branch o q h = let n = came _ _ _ h in number-ends 4 b p n.by n.first
 operand_within users b p kind.Switch o q h =
     let n = came _ _ _ h in
     let ts = mapped _ _ _ n.after in
-    let here = number_within 4 b p n.by n.first in
+    let here = number-ends 4 b p n.by n.first in
     let there = targets_within b (p + 4 + 4 * n.by) (p + 4) n.by ts.by here ts.first in
     let count : target_count o ≡ n.by = ap target_count (sym ts.is) ∙ there.1 in
     omega (arith, there.0, count)
@@ -102,22 +100,22 @@ code_size-one op h = rw (lt-ltb op 0x100 h) refl
 
 -- a code that is there ends within the bytes
 code_within : (b : List ℕ) (p op : ℕ) → IsBytes b → code_at b p ≡ Some op → p + code_size op ≤ length b
-unfolding code_at number_at
+unfolding code_at number_within number_at
 code_within b p op bytes h =
     let first = came _ _ _ h in
-    chosen b p op first.by bytes (number_within 1 b p first.by first.first) (same_byte b p first.by first.first) (first.by == 0xFE) first.after
+    chosen b p op first.by bytes (number-ends 1 b p first.by first.first) (same_byte b p first.by first.first) (first.by == 0xFE) first.after
   where
-    same_byte : (b : List ℕ) (p n : ℕ) → number_at 1 b p ≡ Some n → n ≡ get_or b p 0
+    same_byte : (b : List ℕ) (p n : ℕ) → number_within b p 1 ≡ Some n → n ≡ get_or b p 0
     same_byte b p n h = split (nat_le (p + 1) (length b)) h
       where
         split : (t : Bool) → cond t (Some (little_from p 1 b)) None ≡ Some n → n ≡ get_or b p 0
         split true e = let s = same_some _ _ e in omega (arith, s)
         split false e = cc
 
-    chosen : (b : List ℕ) (p op first : ℕ) → IsBytes b → p + 1 ≤ length b → first ≡ get_or b p 0 → (t : Bool) → cond t (option_map (λ second. 0xFE00 + second) (number_at 1 b (p + 1))) (Some first) ≡ Some op → p + code_size op ≤ length b
+    chosen : (b : List ℕ) (p op first : ℕ) → IsBytes b → p + 1 ≤ length b → first ≡ get_or b p 0 → (t : Bool) → cond t (option_map (λ second. 0xFE00 + second) (number_within b (p + 1) 1)) (Some first) ≡ Some op → p + code_size op ≤ length b
     chosen b p op first bytes q e true h =
         let second = mapped _ _ _ h in
-        let there = number_within 1 b (p + 1) second.by second.first in
+        let there = number-ends 1 b (p + 1) second.by second.first in
         let size = code_size-upto op in
         omega (arith, there, size.1)
     chosen b p op first bytes q e false h =
@@ -129,9 +127,9 @@ operand_ends : (users b : List ℕ) (p op : ℕ) (kind : k.OperandKind) (x : Ins
 unfolding size_of
 operand_ends users b p op kind x start e h =
     let operand = mapped (instr_of op) (operand_at users b (p + code_size op) kind) x h in
-    let end : p + code_size op + width_of kind operand.by ≤ length b = operand_within users b (p + code_size op) kind operand.by start operand.first in
+    let end : p + code_size op + operand_width kind operand.by ≤ length b = operand_within users b (p + code_size op) kind operand.by start operand.first in
     subst (λ (y : Instr). p + (code_size y.op + width_in (kind_of y.op) y.operand) ≤ length b) operand.is
-    (subst (λ (o : Option k.OperandKind). p + (code_size op + width_in o operand.by) ≤ length b) (sym e) (reordered p (code_size op) (width_of kind operand.by) (length b) end))
+    (subst (λ (o : Option k.OperandKind). p + (code_size op + width_in o operand.by) ≤ length b) (sym e) (reordered p (code_size op) (operand_width kind operand.by) (length b) end))
   where
     reordered : (p a w n : ℕ) → p + a + w ≤ n → p + (a + w) ≤ n
     reordered p a w n h = omega arith
@@ -152,63 +150,8 @@ pub size_of-pos : (x : Instr) → 1 ≤ size_of x
 unfolding size_of
 size_of-pos x = let size = code_size-upto x.op in omega (arith, size.0)
 
--- what stays of the instructions after those read
-pub record Rest (users b : List ℕ) (front : List Instr) (p : ℕ) (xs : List Instr) : Type 0 where
-  pub rest : List Instr
-  pub is : xs ≡ front ++ rest
-  pub stands : Stand users b p rest
-
--- the instructions up to a place are read
-pub record Read (users b : List ℕ) (front : List Instr) (p : ℕ) : Type 0 where
-  pub within : p ≤ length b
-  pub found : (rest : List Instr) → Stand users b p rest → Stand users b 0 (front ++ rest)
-  pub only : (xs : List Instr) → Stand users b 0 xs → Rest users b front p xs
-
-pub read-start : (users b : List ℕ) → Read users b [] 0
-read-start users b = record { within = omega arith; found = λ rest s. s; only = λ xs s. record { rest = xs; is = refl; stands = s } }
-
-one_more : (users b : List ℕ) (front : List Instr) (p : ℕ) (x : Instr) (xs rest : List Instr) → p < length b → instr_at users b p ≡ Some x → xs ≡ front ++ rest → Stand users b p rest → Rest users b (front ++ x ∷ []) (p + size_of x) xs
-one_more users b front p x xs [] q h e s = absurd (omega (arith, s))
-one_more users b front p x xs (y ∷ rest) q h e s =
-    let same : y ≡ x = same_some _ _ (sym s.0 ∙ h) in
-    record {
-      rest = rest;
-      is = e ∙ ap (λ z. front ++ z ∷ rest) same ∙ sym (append_assoc front (x ∷ []) rest);
-      stands = subst (λ z. Stand users b (p + size_of z) rest) same s.1;
-    }
-
--- one more instruction is read
-pub read-more : (users b : List ℕ) (front : List Instr) (p : ℕ) (x : Instr) → IsBytes b → p < length b → instr_at users b p ≡ Some x → Read users b front p → Read users b (front ++ x ∷ []) (p + size_of x)
-read-more users b front p x bytes q h r = record {
-  within = instr_within users b p x bytes h;
-  found = λ rest s. subst (Stand users b 0) (sym (append_assoc front (x ∷ []) rest)) (r.found (x ∷ rest) (h, s));
-  only = λ xs s. let left = r.only xs s in one_more users b front p x xs left.rest q h left.is left.stands;
-}
-
--- where no instruction is, there are no instructions up to the end
-pub read-stop : (users b : List ℕ) (front : List Instr) (p : ℕ) → p < length b → instr_at users b p ≡ None → Read users b front p → (xs : List Instr) → Stand users b 0 xs → ⊥
-read-stop users b front p q h r xs s = let left = r.only xs s in stuck left.rest left.stands
-  where
-    nothing : (y : Instr) → None ≡ Some y → ⊥
-    nothing y e = cc
-
-    stuck : (rest : List Instr) → Stand users b p rest → ⊥
-    stuck [] s = omega (arith, s)
-    stuck (y ∷ rest) s = nothing y (sym h ∙ s.0)
-
-over : (users b : List ℕ) (front : List Instr) (p : ℕ) (xs rest : List Instr) → IsBytes b → length b ≤ p → xs ≡ front ++ rest → Stand users b p rest → xs ≡ front
-over users b front p xs [] bytes q e s = e ∙ append-nil front
-over users b front p xs (y ∷ rest) bytes q e s = let end = instr_within users b p y bytes s.0 in let pos = size_of-pos y in absurd (omega (arith, end, pos))
-
--- at the end all are read
-pub read-over : (users b : List ℕ) (front : List Instr) (p : ℕ) → IsBytes b → length b ≤ p → Read users b front p → Stand users b 0 front × ((xs : List Instr) → Stand users b 0 xs → xs ≡ front)
-read-over users b front p bytes q r = (
-  subst (Stand users b 0) (append-nil front) (r.found [] (omega (arith, r.within))),
-  λ xs s. let left = r.only xs s in over users b front p xs left.rest bytes q left.is left.stands,
-)
-
 -- instructions are no more than the bytes
 
-pub stand-length : (users b : List ℕ) (p : ℕ) (xs : List Instr) → IsBytes b → Stand users b p xs → length xs + p ≤ length b
-stand-length users b p [] bytes s = omega (arith, s)
-stand-length users b p (x ∷ xs) bytes s = let ih = stand-length users b (p + size_of x) xs bytes s.1 in let pos = size_of-pos x in omega (arith, ih, pos)
+pub stand-length : (users b : List ℕ) (p : ℕ) (xs : List Instr) → Stand users b p xs → length xs + p ≤ length b
+stand-length users b p [] s = omega (arith, s)
+stand-length users b p (x ∷ xs) s = let ih = stand-length users b (p + size_of x) xs s.1 in let pos = size_of-pos x in omega (arith, ih, pos)

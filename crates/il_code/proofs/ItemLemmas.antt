@@ -4,8 +4,8 @@ use Rattle.std.specs.Prelude.{option_map}
 use Rattle.std.specs.List.{range_with_len}
 use Rattle.std.proofs.lemmas.List.{append-nil}
 use Rattle.std.proofs.lemmas.List.FromFn.{map-range_with_len_more}
-use Rattle.byteorder.specs.Endian.{little_from}
-use Rattle.il_code.specs.Numbers.{items_at}
+use Rattle.cil_base.specs.Place.{number_at}
+use Rattle.il_code.specs.Items.{items_at}
 
 -- what was read so far, and what is to come
 abbrev pub with_front : {A : Type 0} → List A → Option (List A) → Option (List A)
@@ -44,8 +44,8 @@ pub items-over : {A : Type 0} (item : ℕ → Option A) (w p left : ℕ) (front 
 items-over item w p left front e = ap (λ k. with_front front (items_at item w p k)) e ∙ ap (with_front front) (items-none item w p) ∙ ap Some (append-nil front)
 
 -- one more unit of a text
-pub utf16-more : (bytes text : List ℕ) (i unit : ℕ) → text ≡ map (λ i. little_from (2 * i) 2 bytes) (range_with_len 0 i) → unit ≡ little_from (2 * i) 2 bytes → text ++ unit ∷ [] ≡ map (λ i. little_from (2 * i) 2 bytes) (range_with_len 0 (i + 1))
-utf16-more bytes text i unit e u = ap (λ t. t ++ unit ∷ []) e ∙ ap (λ n. map (λ i. little_from (2 * i) 2 bytes) (range_with_len 0 i) ++ n ∷ []) u ∙ sym (map-range_with_len_more (λ i. little_from (2 * i) 2 bytes) 0 i i (omega arith))
+pub utf16-more : (bytes text : List ℕ) (i unit : ℕ) → text ≡ map (λ i. number_at bytes (2 * i) 2) (range_with_len 0 i) → unit ≡ number_at bytes (2 * i) 2 → text ++ unit ∷ [] ≡ map (λ i. number_at bytes (2 * i) 2) (range_with_len 0 (i + 1))
+utf16-more bytes text i unit e u = ap (λ t. t ++ unit ∷ []) e ∙ ap (λ n. map (λ i. number_at bytes (2 * i) 2) (range_with_len 0 i) ++ n ∷ []) u ∙ sym (map-range_with_len_more (λ i. number_at bytes (2 * i) 2) 0 i i (omega arith))
 
 -- one more item is read, or is not there, by the items so far with it
 pub items-added : {A : Type 0} (item : ℕ → Option A) (w p left n : ℕ) (front more : List A) → left ≡ n + 1 → option_map (λ x. front ++ x ∷ []) (item p) ≡ Some more → with_front front (items_at item w p left) ≡ with_front more (items_at item w (p + w) n)

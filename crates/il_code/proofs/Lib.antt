@@ -1,7 +1,9 @@
 pub mod CodeLemmas
+pub mod DecodedLemmas
+pub mod EditFacts
 pub mod ItemLemmas
+pub mod KindLemmas
 pub mod LayoutLemmas
-pub mod NameLemmas
 pub mod NumberingLaws
 pub mod NumberingLemmas
 pub mod ReadBackLemmas

@@ -9,7 +9,8 @@ use Rattle.std.proofs.lemmas.List.FromFn.{map-range_with_len_more}
 use Rattle.std.proofs.lemmas.Bool.Decides.{nat_tests}
 use Rattle.il_code.specs.declared.instr.Instr.{Instr}
 use Rattle.il_code.specs.Code.{at, size_of}
-use Rattle.il_code.specs.Numbering.{places, Rising, number_in, each}
+use Rattle.il_code.specs.Numbering.{places, number_in, each}
+use Rattle.il_code.specs.inner.Places.{Rising}
 
 -- the number of a place
 

@@ -8,12 +8,12 @@ use Rattle.il_code.specs.declared.kind.OperandKind as k
 use Rattle.il_code.specs.declared.operand.Operand.{Operand}
 use Rattle.il_code.specs.declared.operand.Operand.TheVariants as of
 use Rattle.il_code.specs.declared.instr.Instr.{Instr}
-use Rattle.il_code.specs.Kinds.{kind_of}
-use Rattle.il_code.specs.Numbers.{◌>>=◌}
-use Rattle.il_code.specs.Code.{width_of, width_in, code_size, size_of, at, text_of, operand_at, instr_of, instr_at, placed, Stand, TargetsBelow}
-use Rattle.il_code.specs.Layout.{is_short, op_bytes, operand_bytes, instr_bytes, token_at, numbered_bytes, code_bytes}
-use Rattle.il_code.specs.Refusal.{target_is_far, is_far, first_far}
-use Rattle.il_code.specs.Ranges.{OperandFits}
+use Rattle.il_code.specs.Instructions.{kind_of}
+use Rattle.cil_base.specs.Steps.{◌>>=◌}
+use Rattle.il_code.specs.Code.{operand_width, width_in, code_size, size_of, at, user_text, operand_at, instr_of, instr_at, placed, Stand, TargetsBelow}
+use Rattle.il_code.specs.CodeBytes.{is_short, op_bytes, operand_bytes, instr_bytes, token_at, numbered_bytes, code_bytes}
+use Rattle.il_code.specs.Refusal.{target_is_far, is_far_branch, first_far}
+use Rattle.il_code.specs.inner.Ranges.{OperandFits}
 use Rattle.il_code.specs.Writable.{IsOfKind, operand_texts, texts_of, NameTexts}
 use Rattle.il_code.proofs.NumberingLemmas.{at-more, at-none}
 use Rattle.il_code.proofs.SpellingLemmas.{size-placed, at-rises}
@@ -53,7 +53,7 @@ pub record Good (users : List ℕ) (place : ℕ → ℕ) (n after token : ℕ) (
   pub targets : TargetsBelow n x.operand
   pub fits : OperandFits x.operand
   pub named : TextNamed users token x.operand
-  pub near : is_far place after x ≡ false
+  pub near : is_far_branch place after x ≡ false
 
 pub length-instr : (place : ℕ → ℕ) (after token : ℕ) (x : Instr) (b : List ℕ) (p : ℕ) → Lies b p (instr_bytes place after token x) → IsOfKind (kind_of x.op) x.operand → length (instr_bytes place after token x) ≡ size_of x
 unfolding instr_bytes size_of
@@ -61,7 +61,7 @@ length-instr place after token x b p l is =
     let known = kinded (kind_of x.op) x.operand is in
     let bytes : List ℕ = operand_bytes place after token (is_short (kind_of x.op)) x.operand in
     let op = read-op b p x.op known.kind (lies-left b p (op_bytes x.op) bytes l) known.known in
-    let operand : length bytes ≡ width_of known.kind x.operand = ap (λ f. length (operand_bytes place after token (is_short f) x.operand)) known.known ∙ length-operand place after token known.kind x.operand known.is in
+    let operand : length bytes ≡ operand_width known.kind x.operand = ap (λ f. length (operand_bytes place after token (is_short f) x.operand)) known.known ∙ length-operand place after token known.kind x.operand known.is in
     length-append (op_bytes x.op) bytes
     ∙ ap (λ n. n + length bytes) op.1
     ∙ ap (λ n. code_size x.op + n) (operand ∙ sym (ap (λ f. width_in f x.operand) known.known))
@@ -74,8 +74,8 @@ read-instr users b place n p after token x near good l e =
     let bytes : List ℕ = operand_bytes place after token (is_short (kind_of x.op)) x.operand in
     let op = read-op b p x.op known.kind (lies-left b p (op_bytes x.op) bytes l) known.known in
     let behind : Lies b (p + code_size x.op) bytes = lies-right b p (p + code_size x.op) (op_bytes x.op) bytes l (ap (λ n. p + n) (sym op.1)) in
-    let width : width_in (kind_of x.op) x.operand ≡ width_of known.kind x.operand = ap (λ f. width_in f x.operand) known.known in
-    let ends : after ≡ p + code_size x.op + width_of known.kind x.operand = omega (arith, e, width) in
+    let width : width_in (kind_of x.op) x.operand ≡ operand_width known.kind x.operand = ap (λ f. width_in f x.operand) known.known in
+    let ends : after ≡ p + code_size x.op + operand_width known.kind x.operand = omega (arith, e, width) in
     let operand = read-operand users b place n (p + code_size x.op) after token known.kind x.operand near known.is (subst (λ f. Lies b (p + code_size x.op) (operand_bytes place after token (is_short f) x.operand)) known.known behind) ends good.targets good.fits good.named (subst (λ f. (is_short f && target_is_far place after x.operand) ≡ false) known.known good.near) in
     ap (λ o. o >>= λ op. kind_of op >>= λ kind. option_map (instr_of op) (operand_at users b (p + code_size op) kind)) op.0
     ∙ ap (λ o. o >>= λ kind. option_map (instr_of x.op) (operand_at users b (p + code_size x.op) kind)) known.known
@@ -173,12 +173,12 @@ unmapped : {A B : Type 0} (f : A → B) (o : Option A) → option_map f o ≡ No
 unmapped f None h = refl
 unmapped f (Some x) h = cc
 
-all-near : (place : ℕ → ℕ) (code : List Instr) (i : ℕ) (x : Instr) → first_far place code ≡ None → i < length code → x ≡ get_or code i x → is_far place (place (i + 1)) x ≡ false
+all-near : (place : ℕ → ℕ) (code : List Instr) (i : ℕ) (x : Instr) → first_far place code ≡ None → i < length code → x ≡ get_or code i x → is_far_branch place (place (i + 1)) x ≡ false
 unfolding first_far
 all-near place code i x h l e =
     let z : 0 + i ≡ i = omega arith in
-    let none = unmapped (λ (e : ℕ × Instr). e.0) (find (λ (e : ℕ × Instr). is_far place (place (e.0 + 1)) e.1) (enumerate_from 0 code)) h in
-    subst (λ n. is_far place (place (n + 1)) x ≡ false) z (none-far (λ (e : ℕ × Instr). is_far place (place (e.0 + 1)) e.1) 0 code i x none l e)
+    let none = unmapped (λ (e : ℕ × Instr). e.0) (find (λ (e : ℕ × Instr). is_far_branch place (place (e.0 + 1)) e.1) (enumerate_from 0 code)) h in
+    subst (λ n. is_far_branch place (place (n + 1)) x ≡ false) z (none-far (λ (e : ℕ × Instr). is_far_branch place (place (e.0 + 1)) e.1) 0 code i x none l e)
 
 -- the tokens name the texts
 
@@ -217,7 +217,7 @@ text-named users texts code i x names small h e = by_operand x.operand (text-her
     by_operand (of.R4 n) is = tt
     by_operand (of.R8 n) is = tt
     by_operand (of.Tok n) is = tt
-    by_operand (of.Text units) is = (at_index (text_of users) texts (texts_of code) (texts_of (take i code)) (texts_of (drop (i + 1) code)) units 0 names is, small (length (texts_of (take i code))))
+    by_operand (of.Text units) is = (at_index (user_text users) texts (texts_of code) (texts_of (take i code)) (texts_of (drop (i + 1) code)) units 0 names is, small (length (texts_of (take i code))))
     by_operand (of.Target n) is = tt
     by_operand (of.Switch n) is = tt
 

@@ -13,13 +13,19 @@ use Rattle.il_code.specs.declared.header.Header.{Header}
 use Rattle.il_code.specs.declared.section.Section.{Section}
 use Rattle.il_code.specs.declared.clause.Clause.{Clause}
 use Rattle.il_code.specs.Body.{Body}
-use Rattle.il_code.specs.Numbers.{◌>>=◌, number_at, token_of, items_at}
-use Rattle.il_code.specs.Sections.{tiny, fat_at, header_at, clause_size, section_at, handler_kind, fields_at, handler_of, clause_at, aligned, Sections}
+use Rattle.cil_base.specs.Place.{number_within}
+use Rattle.cil_base.specs.Steps.{◌>>=◌}
+use Rattle.cil_base.specs.Token.{token_from}
+use Rattle.il_code.specs.Items.{items_at}
+use Rattle.il_code.specs.Sections.{tiny, fat_at, header_at, clause_size, data_section_at, handler_kind, fields_at, handler_of, clause_at, aligned, Sections}
 use Rattle.il_code.specs.Spelling.{placed_kind, placed_handler}
-use Rattle.il_code.specs.Layout.{token_number, has_handlers, is_tiny, flags_of, header_bytes, kind_flags, kind_last, clause_of, fits_small, needs_fat, clause_bytes, section_number, section_bytes}
-use Rattle.il_code.specs.Ranges.{TokenFits, KindFits}
+use Rattle.cil_base.specs.Token.{token_number}
+use Rattle.il_code.specs.HeaderBytes.{has_handlers, is_tiny, flags_of, header_bytes}
+use Rattle.il_code.specs.SectionBytes.{kind_flags, kind_last, clause_of, fits_small, needs_fat, clause_bytes, section_number, section_bytes}
+use Rattle.il_code.specs.inner.Ranges.{TokenFits, KindFits}
 use Rattle.il_code.proofs.ReadBackLemmas.{Lies, lies-left, lies-right, lies-number, lies-byte}
-use Rattle.il_code.proofs.ReadCodeLemmas.{token-back, token-small, length-little}
+use Rattle.il_code.proofs.ReadCodeLemmas.{length-little}
+use Rattle.cil_base.proofs.TokenLemmas.{token-back, token-small}
 use Rattle.il_code.proofs.SectionLemmas.{aligned-up}
 
 -- the header of a body that is written
@@ -91,7 +97,7 @@ abbrev fat_header : ℕ → ℕ → Bool → Token → Bool → Header
 fat_header size max_stack init locals sections = record { start = 12; size = size; max_stack = max_stack; init_locals = init; locals = locals; sections = sections }
 
 abbrev made : ℕ → ℕ → ℕ → ℕ → Option Header
-made flags max_stack size locals = cond (flags / 2 ^ 12 == 3) (Some (fat_header size max_stack (flags / 0x10 % 2 == 1) (token_of locals) (flags / 8 % 2 == 1))) None
+made flags max_stack size locals = cond (flags / 2 ^ 12 == 3) (Some (fat_header size max_stack (flags / 0x10 % 2 == 1) (token_from locals) (flags / 8 % 2 == 1))) None
 
 fat-head : (v : Body) (size : ℕ) (s rest : List ℕ) → HeaderFacts v size → s ≡ header_bytes v size ++ rest → is_tiny v size ≡ false → Head v size s
 unfolding header_bytes header_at fat_at
@@ -111,20 +117,20 @@ fat-head v size s rest facts is t =
     let na = lies-number s 0 2 flags (lies-left s 0 a b ab) f.small in
     let nb = lies-number s 2 2 v.max_stack (lies-right s 0 2 a b ab refl) (omega (arith, facts.max_stack)) in
     let nc = lies-number s 4 4 size (lies-right s 0 4 (a ++ b) c abc refl) (omega (arith, facts.small)) in
-    let nd = lies-number s 8 4 (token_number v.locals) (lies-right s 0 8 (a ++ b ++ c) d lies refl) (token-small v.locals facts.locals) in
+    let nd = lies-number s 8 4 (token_number v.locals) (lies-right s 0 8 (a ++ b ++ c) d lies refl) (token-small v.locals facts.locals.table facts.locals.rid) in
     record {
       header = fat_header size v.max_stack v.init_locals v.locals (has_handlers v);
       heads =
           ap (λ o. o >>= λ first. cond (first % 4 == 2) (Some (tiny first)) (cond (first % 4 == 3) (fat_at s) None)) first
           ∙ ap (λ t. cond t (Some (tiny (flags % 256))) (cond (flags % 256 % 4 == 3) (fat_at s) None)) f.not_tiny
           ∙ ap (λ t. cond t (fat_at s) None) f.form
-          ∙ ap (λ o. o >>= λ flags. number_at 2 s 2 >>= λ max_stack. number_at 4 s 4 >>= λ size. number_at 4 s 8 >>= λ locals. made flags max_stack size locals) na
-          ∙ ap (λ o. o >>= λ max_stack. number_at 4 s 4 >>= λ size. number_at 4 s 8 >>= λ locals. made flags max_stack size locals) nb
-          ∙ ap (λ o. o >>= λ size. number_at 4 s 8 >>= λ locals. made flags v.max_stack size locals) nc
+          ∙ ap (λ o. o >>= λ flags. number_within s 2 2 >>= λ max_stack. number_within s 4 4 >>= λ size. number_within s 8 4 >>= λ locals. made flags max_stack size locals) na
+          ∙ ap (λ o. o >>= λ max_stack. number_within s 4 4 >>= λ size. number_within s 8 4 >>= λ locals. made flags max_stack size locals) nb
+          ∙ ap (λ o. o >>= λ size. number_within s 8 4 >>= λ locals. made flags v.max_stack size locals) nc
           ∙ ap (λ o. o >>= λ locals. made flags v.max_stack size locals) nd
-          ∙ ap (λ t. cond t (Some (fat_header size v.max_stack (flags / 0x10 % 2 == 1) (token_of (token_number v.locals)) (flags / 8 % 2 == 1))) None) f.words
-          ∙ ap (λ i. Some (fat_header size v.max_stack i (token_of (token_number v.locals)) (flags / 8 % 2 == 1))) f.init
-          ∙ ap (λ t. Some (fat_header size v.max_stack v.init_locals t (flags / 8 % 2 == 1))) (token-back v.locals facts.locals)
+          ∙ ap (λ t. cond t (Some (fat_header size v.max_stack (flags / 0x10 % 2 == 1) (token_from (token_number v.locals)) (flags / 8 % 2 == 1))) None) f.words
+          ∙ ap (λ i. Some (fat_header size v.max_stack i (token_from (token_number v.locals)) (flags / 8 % 2 == 1))) f.init
+          ∙ ap (λ t. Some (fat_header size v.max_stack v.init_locals t (flags / 8 % 2 == 1))) (token-back v.locals facts.locals.rid)
           ∙ ap (λ i. Some (fat_header size v.max_stack v.init_locals v.locals i)) f.sections;
       start = sym (ap length bytes);
       size_is = refl;
@@ -149,13 +155,13 @@ pub record ClauseFacts (place : ℕ → ℕ) (h : Handler) : Type 0 where
 
 kind-read : (place : ℕ → ℕ) (kind : HandlerKind) → KindFits kind → handler_kind (kind_flags kind) (kind_last place kind) ≡ Some (placed_kind place kind)
 unfolding handler_kind
-kind-read place (Typed t) fits = ap (λ t. Some (Typed t)) (token-back t fits)
+kind-read place (Typed t) fits = ap (λ t. Some (Typed t)) (token-back t fits.rid)
 kind-read place (Filter start) fits = refl
 kind-read place Finally fits = refl
 kind-read place Fault fits = refl
 
 last-small : (place : ℕ → ℕ) (kind : HandlerKind) → KindFits kind → ((t : ℕ) → place t ≤ 2 ^ 24) → kind_last place kind < 256 ^ 4
-last-small place (Typed t) fits small = token-small t fits
+last-small place (Typed t) fits small = token-small t fits.table fits.rid
 last-small place (Filter start) fits small = omega (arith, small start)
 last-small place Finally fits small = omega arith
 last-small place Fault fits small = omega arith
@@ -182,8 +188,8 @@ abbrev fields_with : ℕ → ℕ → ℕ → ℕ → ℕ → ℕ → Clause
 fields_with a b c d e f = record { flags = a; try_offset = b; try_len = c; offset = d; len = e; last = f }
 
 -- six numbers one after the other
-six : (s : List ℕ) (wa wb wc wd we wf pa pb pc pd pe pf a b c d e f : ℕ) → number_at wa s pa ≡ Some a → number_at wb s pb ≡ Some b → number_at wc s pc ≡ Some c → number_at wd s pd ≡ Some d → number_at we s pe ≡ Some e → number_at wf s pf ≡ Some f
-    → (number_at wa s pa >>= λ a. number_at wb s pb >>= λ b. number_at wc s pc >>= λ c. number_at wd s pd >>= λ d. number_at we s pe >>= λ e. number_at wf s pf >>= λ f. Some (fields_with a b c d e f)) ≡ Some (fields_with a b c d e f)
+six : (s : List ℕ) (wa wb wc wd we wf pa pb pc pd pe pf a b c d e f : ℕ) → number_within s pa wa ≡ Some a → number_within s pb wb ≡ Some b → number_within s pc wc ≡ Some c → number_within s pd wd ≡ Some d → number_within s pe we ≡ Some e → number_within s pf wf ≡ Some f
+    → (number_within s pa wa >>= λ a. number_within s pb wb >>= λ b. number_within s pc wc >>= λ c. number_within s pd wd >>= λ d. number_within s pe we >>= λ e. number_within s pf wf >>= λ f. Some (fields_with a b c d e f)) ≡ Some (fields_with a b c d e f)
 six s wa wb wc wd we wf pa pb pc pd pe pf a b c d e f ha hb hc hd he hf = rw (ha, hb, hc, hd, he, hf) refl
 
 small-read : (s : List ℕ) (p : ℕ) (c : Clause) → c.flags ≤ 4 → c.last < 256 ^ 4 → fits_small c ≡ true → Lies s p (clause_bytes false c) → fields_at false s p ≡ Some c
@@ -272,8 +278,8 @@ abbrev by_kind : ℕ → ℕ → Option Section
 by_kind kind above = let fat = kind / 0x40 % 2 == 1 in let size = cond fat above (above % 2 ^ 8) in cond (kind % 0x40 == 1) (Some (section_with fat (kind / 0x80 == 1) (size / clause_size fat))) None
 
 -- a section's header is read, where a small one's size fits its byte
-section-read : (fat : Bool) (s : List ℕ) (p count : ℕ) → count ≤ 65535 → (fat ≡ false → count ≤ 20) → Lies s p (little_bytes 4 (section_number fat count)) → section_at s p ≡ Some (section_with fat false count)
-unfolding section_at
+section-read : (fat : Bool) (s : List ℕ) (p count : ℕ) → count ≤ 65535 → (fat ≡ false → count ≤ 20) → Lies s p (little_bytes 4 (section_number fat count)) → data_section_at s p ≡ Some (section_with fat false count)
+unfolding data_section_at
 section-read true s p count few small l =
     let n = lies-number s p 4 (section_number true count) l (omega (arith, few)) in
     let kind : section_number true count % 2 ^ 8 ≡ 0x41 = omega (arith, few) in

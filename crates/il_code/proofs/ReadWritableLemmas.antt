@@ -11,11 +11,15 @@ use Rattle.il_code.specs.declared.operand.Operand.TheVariants as of
 use Rattle.il_code.specs.declared.instr.Instr.{Instr}
 use Rattle.il_code.specs.declared.handler.Handler.{Handler}
 use Rattle.il_code.specs.Body.{Body}
-use Rattle.il_code.specs.Kinds.{kind_of}
-use Rattle.il_code.specs.Numbers.{◌>>=◌, number_at, target_at, token_of, items_at}
-use Rattle.il_code.specs.Code.{at, code_size, size_of, text_of, switch_target_at, operand_at, code_at, instr_of, instr_at, placed, placed_operand, Stand, TargetsBelow}
+use Rattle.il_code.specs.Instructions.{kind_of}
+use Rattle.cil_base.specs.Place.{number_within}
+use Rattle.cil_base.specs.Steps.{◌>>=◌}
+use Rattle.cil_base.specs.Token.{token_from}
+use Rattle.il_code.specs.Items.{items_at}
+use Rattle.il_code.specs.Targets.{target_at}
+use Rattle.il_code.specs.Code.{at, code_size, size_of, user_text, switch_target_at, operand_at, code_at, instr_of, instr_at, placed, placed_operand, Stand, TargetsBelow}
 use Rattle.il_code.specs.Sections.{clause_size, handler_kind, fields_at, handler_of, clause_at, aligned, FollowedBy, Sections}
-use Rattle.il_code.specs.Spelling.{placed_handler, Bounded, Handled, Spells}
+use Rattle.il_code.specs.Spelling.{placed_handler, BoundedHandler, Handled, Spells}
 use Rattle.il_code.specs.Writable.{IsOfKind, IsSound, IsSoundHandler, Writable}
 use Rattle.il_code.proofs.CodeLemmas.{came, mapped, same_some}
 use Rattle.il_code.proofs.SpellingLemmas.{at-rises}
@@ -39,18 +43,18 @@ kept-after P next (Some n) o all h = all n h
 operand-kind : (users b : List ℕ) (p : ℕ) (found : k.OperandKind) (o : Operand) → operand_at users b p found ≡ Some o → IsOfKind (Some found) o
 unfolding operand_at
 operand-kind users b p kind.NoOperand o h = subst (IsOfKind (Some kind.NoOperand)) (same_some of.None o h) refl
-operand-kind users b p kind.U8 o h = kept (IsOfKind (Some kind.U8)) of.U8 (number_at 1 b p) o (λ (n : ℕ). refl) h
-operand-kind users b p kind.U16 o h = kept (IsOfKind (Some kind.U16)) of.U16 (number_at 2 b p) o (λ (n : ℕ). refl) h
-operand-kind users b p kind.I8 o h = kept (IsOfKind (Some kind.I8)) (λ n. of.I8 (cast_signed w8 n)) (number_at 1 b p) o (λ (n : ℕ). refl) h
-operand-kind users b p kind.I32 o h = kept (IsOfKind (Some kind.I32)) (λ n. of.I32 (cast_signed w32 n)) (number_at 4 b p) o (λ (n : ℕ). refl) h
-operand-kind users b p kind.I64 o h = kept (IsOfKind (Some kind.I64)) (λ n. of.I64 (cast_signed w64 n)) (number_at 8 b p) o (λ (n : ℕ). refl) h
-operand-kind users b p kind.R4 o h = kept (IsOfKind (Some kind.R4)) of.R4 (number_at 4 b p) o (λ (n : ℕ). refl) h
-operand-kind users b p kind.R8 o h = kept (IsOfKind (Some kind.R8)) of.R8 (number_at 8 b p) o (λ (n : ℕ). refl) h
-operand-kind users b p kind.Token o h = kept (IsOfKind (Some kind.Token)) (λ n. of.Tok (token_of n)) (number_at 4 b p) o (λ (n : ℕ). refl) h
-operand-kind users b p kind.Text o h = kept-after (IsOfKind (Some kind.Text)) (λ n. option_map of.Text (text_of users n)) (number_at 4 b p) o (λ n e. kept (IsOfKind (Some kind.Text)) of.Text (text_of users n) o (λ (units : List ℕ). refl) e) h
-operand-kind users b p kind.ShortBranch o h = kept-after (IsOfKind (Some kind.ShortBranch)) (λ n. option_map of.Target (target_at b (2 ^ 7) (p + 1) n)) (number_at 1 b p) o (λ n e. kept (IsOfKind (Some kind.ShortBranch)) of.Target (target_at b (2 ^ 7) (p + 1) n) o (λ (t : ℕ). inl refl) e) h
-operand-kind users b p kind.Branch o h = kept-after (IsOfKind (Some kind.Branch)) (λ n. option_map of.Target (target_at b (2 ^ 31) (p + 4) n)) (number_at 4 b p) o (λ n e. kept (IsOfKind (Some kind.Branch)) of.Target (target_at b (2 ^ 31) (p + 4) n) o (λ (t : ℕ). inr refl) e) h
-operand-kind users b p kind.Switch o h = kept-after (IsOfKind (Some kind.Switch)) (λ count. option_map of.Switch (items_at (switch_target_at b (p + 4 + 4 * count)) 4 (p + 4) count)) (number_at 4 b p) o (λ n e. kept (IsOfKind (Some kind.Switch)) of.Switch (items_at (switch_target_at b (p + 4 + 4 * n)) 4 (p + 4) n) o (λ (ts : List ℕ). refl) e) h
+operand-kind users b p kind.U8 o h = kept (IsOfKind (Some kind.U8)) of.U8 (number_within b p 1) o (λ (n : ℕ). refl) h
+operand-kind users b p kind.U16 o h = kept (IsOfKind (Some kind.U16)) of.U16 (number_within b p 2) o (λ (n : ℕ). refl) h
+operand-kind users b p kind.I8 o h = kept (IsOfKind (Some kind.I8)) (λ n. of.I8 (cast_signed w8 n)) (number_within b p 1) o (λ (n : ℕ). refl) h
+operand-kind users b p kind.I32 o h = kept (IsOfKind (Some kind.I32)) (λ n. of.I32 (cast_signed w32 n)) (number_within b p 4) o (λ (n : ℕ). refl) h
+operand-kind users b p kind.I64 o h = kept (IsOfKind (Some kind.I64)) (λ n. of.I64 (cast_signed w64 n)) (number_within b p 8) o (λ (n : ℕ). refl) h
+operand-kind users b p kind.R4 o h = kept (IsOfKind (Some kind.R4)) of.R4 (number_within b p 4) o (λ (n : ℕ). refl) h
+operand-kind users b p kind.R8 o h = kept (IsOfKind (Some kind.R8)) of.R8 (number_within b p 8) o (λ (n : ℕ). refl) h
+operand-kind users b p kind.Token o h = kept (IsOfKind (Some kind.Token)) (λ n. of.Tok (token_from n)) (number_within b p 4) o (λ (n : ℕ). refl) h
+operand-kind users b p kind.Text o h = kept-after (IsOfKind (Some kind.Text)) (λ n. option_map of.Text (user_text users n)) (number_within b p 4) o (λ n e. kept (IsOfKind (Some kind.Text)) of.Text (user_text users n) o (λ (units : List ℕ). refl) e) h
+operand-kind users b p kind.ShortBranch o h = kept-after (IsOfKind (Some kind.ShortBranch)) (λ n. option_map of.Target (target_at b (2 ^ 7) (p + 1) n)) (number_within b p 1) o (λ n e. kept (IsOfKind (Some kind.ShortBranch)) of.Target (target_at b (2 ^ 7) (p + 1) n) o (λ (t : ℕ). inl refl) e) h
+operand-kind users b p kind.Branch o h = kept-after (IsOfKind (Some kind.Branch)) (λ n. option_map of.Target (target_at b (2 ^ 31) (p + 4) n)) (number_within b p 4) o (λ n e. kept (IsOfKind (Some kind.Branch)) of.Target (target_at b (2 ^ 31) (p + 4) n) o (λ (t : ℕ). inr refl) e) h
+operand-kind users b p kind.Switch o h = kept-after (IsOfKind (Some kind.Switch)) (λ count. option_map of.Switch (items_at (switch_target_at b (p + 4 + 4 * count)) 4 (p + 4) count)) (number_within b p 4) o (λ n e. kept (IsOfKind (Some kind.Switch)) of.Switch (items_at (switch_target_at b (p + 4 + 4 * n)) 4 (p + 4) n) o (λ (ts : List ℕ). refl) e) h
 
 kind-placed : (found : Option k.OperandKind) (place : ℕ → ℕ) (o : Operand) → IsOfKind found (placed_operand place o) → IsOfKind found o
 kind-placed found place of.None h = h
@@ -126,7 +130,7 @@ handled-ordered false s p hs h = subst (AllByRecursion InOrder) (sym h) tt
 no_fall : (code : List Instr) (i j : ℕ) → i ≤ length code → at code i ≤ at code j → i ≤ j
 no_fall code i j l h = elim (cases_lt j i) [ inl less ↦ let down = at-rises code j i less l in absurd (omega (arith, down, h)) | inr no_less ↦ no_less ]
 
-handlers-sound : (code : List Instr) (hs : List Handler) → AllByRecursion InOrder (map (placed_handler (at code)) hs) → AllByRecursion (Bounded (length code)) hs → AllByRecursion (IsSoundHandler (length code)) hs
+handlers-sound : (code : List Instr) (hs : List Handler) → AllByRecursion InOrder (map (placed_handler (at code)) hs) → AllByRecursion (BoundedHandler (length code)) hs → AllByRecursion (IsSoundHandler (length code)) hs
 handlers-sound code [] ordered bounds = tt
 handlers-sound code (h ∷ hs) ordered bounds = (
   record {

@@ -5,10 +5,13 @@ use Rattle.std.specs.List.{flat_map}
 use Rattle.std.proofs.lemmas.List.{append-nil}
 use Rattle.il_code.specs.declared.handler.Handler.{Handler}
 use Rattle.il_code.specs.declared.section.Section.{Section}
-use Rattle.il_code.specs.Numbers.{◌>>=◌, number_at, items_at}
-use Rattle.il_code.specs.Sections.{aligned, clause_at, clause_size, section_at, FollowedBy, Sections}
-use Rattle.il_code.specs.Numbering.{each, numbered_clause, numbered_handler, handlers_in, sections_in, after_front}
-use Rattle.il_code.proofs.CodeLemmas.{came, mapped, same_some, number_within}
+use Rattle.cil_base.specs.Place.{number_within}
+use Rattle.cil_base.specs.Steps.{◌>>=◌}
+use Rattle.il_code.specs.Items.{items_at}
+use Rattle.il_code.specs.Sections.{aligned, clause_at, clause_size, data_section_at, FollowedBy, Sections}
+use Rattle.il_code.specs.Numbering.{each, numbered_clause, numbered_handler, handlers_in, sections_in}
+use Rattle.il_code.specs.inner.Numbering.{after_front}
+use Rattle.il_code.proofs.CodeLemmas.{came, mapped, same_some, number-ends}
 use Rattle.il_code.proofs.NumberingLaws.{each-append, each-split}
 use Rattle.il_code.proofs.NumberingLemmas.{each-nil}
 
@@ -21,11 +24,11 @@ front-none front (Some hs) h = absurd (nothing h)
     nothing : {hs : List Handler} → Some hs ≡ None → ⊥
     nothing h = cc
 
-stop : (ps : List ℕ) (n : ℕ) (s : List ℕ) (k p : ℕ) → section_at s (aligned p) ≡ None → sections_in ps n s (suc k) p ≡ None
+stop : (ps : List ℕ) (n : ℕ) (s : List ℕ) (k p : ℕ) → data_section_at s (aligned p) ≡ None → sections_in ps n s (suc k) p ≡ None
 unfolding sections_in
 stop ps n s k p h = rw h refl
 
-step : (ps : List ℕ) (n : ℕ) (s : List ℕ) (k p : ℕ) (head : Section) → section_at s (aligned p) ≡ Some head → sections_in ps n s (suc k) p ≡ (handlers_in ps n s head (aligned p + 4) >>= λ hs. cond head.further (option_map (λ rest. hs ++ rest) (sections_in ps n s k (aligned p + 4 + head.count * clause_size head.fat))) (Some hs))
+step : (ps : List ℕ) (n : ℕ) (s : List ℕ) (k p : ℕ) (head : Section) → data_section_at s (aligned p) ≡ Some head → sections_in ps n s (suc k) p ≡ (handlers_in ps n s head (aligned p + 4) >>= λ hs. cond head.further (option_map (λ rest. hs ++ rest) (sections_in ps n s k (aligned p + 4 + head.count * clause_size head.fat))) (Some hs))
 unfolding sections_in
 step ps n s k p head h = rw h refl
 
@@ -33,34 +36,34 @@ pub sections-over : (front : List Handler) (ps : List ℕ) (n : ℕ) (s : List �
 unfolding sections_in
 sections-over front ps n s fuel p e = rw e refl
 
-pub sections-no_head : (front : List Handler) (ps : List ℕ) (n : ℕ) (s : List ℕ) (fuel p start : ℕ) → 0 < fuel → start ≡ aligned p → section_at s start ≡ None → after_front front (sections_in ps n s fuel p) ≡ None
+pub sections-no_head : (front : List Handler) (ps : List ℕ) (n : ℕ) (s : List ℕ) (fuel p start : ℕ) → 0 < fuel → start ≡ aligned p → data_section_at s start ≡ None → after_front front (sections_in ps n s fuel p) ≡ None
 sections-no_head front ps n s fuel p start pos e h =
     let f : fuel ≡ suc (fuel - 1) = omega arith in
-    ap (λ k. after_front front (sections_in ps n s k p)) f ∙ ap (after_front front) (stopped (fuel - 1) (ap (section_at s) (sym e) ∙ h))
+    ap (λ k. after_front front (sections_in ps n s k p)) f ∙ ap (after_front front) (stopped (fuel - 1) (ap (data_section_at s) (sym e) ∙ h))
   where
-    stopped : (k : ℕ) → section_at s (aligned p) ≡ None → sections_in ps n s (suc k) p ≡ None
+    stopped : (k : ℕ) → data_section_at s (aligned p) ≡ None → sections_in ps n s (suc k) p ≡ None
     stopped k h = stop ps n s k p h
 
-pub sections-no_clauses : (front : List Handler) (ps : List ℕ) (n : ℕ) (s : List ℕ) (fuel p start : ℕ) (head : Section) → 0 < fuel → start ≡ aligned p → section_at s start ≡ Some head → after_front front (handlers_in ps n s head (start + 4)) ≡ None → after_front front (sections_in ps n s fuel p) ≡ None
+pub sections-no_clauses : (front : List Handler) (ps : List ℕ) (n : ℕ) (s : List ℕ) (fuel p start : ℕ) (head : Section) → 0 < fuel → start ≡ aligned p → data_section_at s start ≡ Some head → after_front front (handlers_in ps n s head (start + 4)) ≡ None → after_front front (sections_in ps n s fuel p) ≡ None
 sections-no_clauses front ps n s fuel p start head pos e h k =
     let f : fuel ≡ suc (fuel - 1) = omega arith in
     let none : handlers_in ps n s head (aligned p + 4) ≡ None = ap (λ a. handlers_in ps n s head (a + 4)) (sym e) ∙ front-none front _ k in
     ap (λ k. after_front front (sections_in ps n s k p)) f
-    ∙ ap (after_front front) (step ps n s (fuel - 1) p head (ap (section_at s) (sym e) ∙ h))
+    ∙ ap (after_front front) (step ps n s (fuel - 1) p head (ap (data_section_at s) (sym e) ∙ h))
     ∙ ap (λ o. after_front front (o >>= λ hs. cond head.further (option_map (λ rest. hs ++ rest) (sections_in ps n s (fuel - 1) (aligned p + 4 + head.count * clause_size head.fat))) (Some hs))) none
 
 chain : (front hs : List Handler) (o : Option (List Handler)) → after_front front (option_map (λ rest. hs ++ rest) o) ≡ after_front (front ++ hs) o
 chain front hs None = refl
 chain front hs (Some rest) = ap Some (sym (append_assoc front hs rest))
 
-found : (front more : List Handler) (ps : List ℕ) (n : ℕ) (s : List ℕ) (fuel p start : ℕ) (head : Section) → 0 < fuel → start ≡ aligned p → section_at s start ≡ Some head → after_front front (handlers_in ps n s head (start + 4)) ≡ Some more
+found : (front more : List Handler) (ps : List ℕ) (n : ℕ) (s : List ℕ) (fuel p start : ℕ) (head : Section) → 0 < fuel → start ≡ aligned p → data_section_at s start ≡ Some head → after_front front (handlers_in ps n s head (start + 4)) ≡ Some more
     → after_front front (sections_in ps n s fuel p) ≡ cond head.further (after_front more (sections_in ps n s (fuel - 1) (start + 4 + head.count * clause_size head.fat))) (Some more)
 found front more ps n s fuel p start head pos e h k =
     let f : fuel ≡ suc (fuel - 1) = omega arith in
     let hs = mapped (λ rest. front ++ rest) (handlers_in ps n s head (start + 4)) more k in
     let some : handlers_in ps n s head (aligned p + 4) ≡ Some hs.by = ap (λ a. handlers_in ps n s head (a + 4)) (sym e) ∙ hs.first in
     ap (λ k. after_front front (sections_in ps n s k p)) f
-    ∙ ap (after_front front) (step ps n s (fuel - 1) p head (ap (section_at s) (sym e) ∙ h))
+    ∙ ap (after_front front) (step ps n s (fuel - 1) p head (ap (data_section_at s) (sym e) ∙ h))
     ∙ ap (λ o. after_front front (o >>= λ hs. cond head.further (option_map (λ rest. hs ++ rest) (sections_in ps n s (fuel - 1) (aligned p + 4 + head.count * clause_size head.fat))) (Some hs))) some
     ∙ by_flag head.further hs.by hs.is
     ∙ ap (λ a. cond head.further (after_front more (sections_in ps n s (fuel - 1) (a + 4 + head.count * clause_size head.fat))) (Some more)) (sym e)
@@ -69,11 +72,11 @@ found front more ps n s fuel p start head pos e h k =
     by_flag true hs e = chain front hs _ ∙ ap (λ z. after_front z (sections_in ps n s (fuel - 1) (aligned p + 4 + head.count * clause_size head.fat))) e
     by_flag false hs e = ap Some e
 
-pub sections-last : (front more : List Handler) (ps : List ℕ) (n : ℕ) (s : List ℕ) (fuel p start : ℕ) (head : Section) → 0 < fuel → start ≡ aligned p → section_at s start ≡ Some head → after_front front (handlers_in ps n s head (start + 4)) ≡ Some more → head.further ≡ false
+pub sections-last : (front more : List Handler) (ps : List ℕ) (n : ℕ) (s : List ℕ) (fuel p start : ℕ) (head : Section) → 0 < fuel → start ≡ aligned p → data_section_at s start ≡ Some head → after_front front (handlers_in ps n s head (start + 4)) ≡ Some more → head.further ≡ false
     → after_front front (sections_in ps n s fuel p) ≡ Some more
 sections-last front more ps n s fuel p start head pos e h k last = found front more ps n s fuel p start head pos e h k ∙ ap (λ t. cond t (after_front more (sections_in ps n s (fuel - 1) (start + 4 + head.count * clause_size head.fat))) (Some more)) last
 
-pub sections-more : (front more : List Handler) (ps : List ℕ) (n : ℕ) (s : List ℕ) (fuel p start next : ℕ) (head : Section) → 0 < fuel → start ≡ aligned p → section_at s start ≡ Some head → after_front front (handlers_in ps n s head (start + 4)) ≡ Some more → head.further ≡ true → next ≡ start + 4 + head.count * clause_size head.fat
+pub sections-more : (front more : List Handler) (ps : List ℕ) (n : ℕ) (s : List ℕ) (fuel p start next : ℕ) (head : Section) → 0 < fuel → start ≡ aligned p → data_section_at s start ≡ Some head → after_front front (handlers_in ps n s head (start + 4)) ≡ Some more → head.further ≡ true → next ≡ start + 4 + head.count * clause_size head.fat
     → after_front front (sections_in ps n s fuel p) ≡ after_front more (sections_in ps n s (fuel - 1) next)
 sections-more front more ps n s fuel p start next head pos e h k further is =
     found front more ps n s fuel p start head pos e h k
@@ -91,11 +94,11 @@ pub aligned-up : (p : ℕ) → p ≤ aligned p
 unfolding aligned
 aligned-up p = omega arith
 
-head_within : (s : List ℕ) (p : ℕ) (head : Section) → section_at s p ≡ Some head → p + 4 ≤ length s
-unfolding section_at
+head_within : (s : List ℕ) (p : ℕ) (head : Section) → data_section_at s p ≡ Some head → p + 4 ≤ length s
+unfolding data_section_at
 head_within s p head h =
-    let n = came (number_at 4 s p) _ head h in
-    number_within 4 s p n.by n.first
+    let n = came (number_within s p 4) _ head h in
+    number-ends 4 s p n.by n.first
 
 -- items of which something is made, and what is made of the items
 
@@ -148,7 +151,7 @@ clauses-only : (ps : List ℕ) (n : ℕ) (s : List ℕ) (head : Section) (p : �
 unfolding handlers_in numbered_clause
 clauses-only ps n s head p xs hs h k = items-only (clause_at head.fat s) (numbered_handler ps n) (clause_size head.fat) p head.count xs hs h k
 
-by_flag : (ps : List ℕ) (n : ℕ) (s : List ℕ) (fuel p : ℕ) → ((q : ℕ) (xs : List Handler) → sections_in ps n s fuel q ≡ Some xs → Found ps n s q xs) → (hs : List Handler) (head : Section) (first : List Handler) → section_at s (aligned p) ≡ Some head → Items (clause_at head.fat s) (numbered_handler ps n) (clause_size head.fat) (aligned p + 4) head.count first
+by_flag : (ps : List ℕ) (n : ℕ) (s : List ℕ) (fuel p : ℕ) → ((q : ℕ) (xs : List Handler) → sections_in ps n s fuel q ≡ Some xs → Found ps n s q xs) → (hs : List Handler) (head : Section) (first : List Handler) → data_section_at s (aligned p) ≡ Some head → Items (clause_at head.fat s) (numbered_handler ps n) (clause_size head.fat) (aligned p + 4) head.count first
     → (t : Bool) → head.further ≡ t → cond t (option_map (λ rest. first ++ rest) (sections_in ps n s fuel (aligned p + 4 + head.count * clause_size head.fat))) (Some first) ≡ Some hs → Found ps n s p hs
 by_flag ps n s fuel p again hs head first h items true e k =
     let others = mapped (λ rest. first ++ rest) (sections_in ps n s fuel (aligned p + 4 + head.count * clause_size head.fat)) hs k in
@@ -172,7 +175,7 @@ sections-found ps n s zero p hs h = absurd (nothing h)
     nothing : None ≡ Some hs → ⊥
     nothing h = cc
 sections-found ps n s (suc fuel) p hs h =
-    let head = came (section_at s (aligned p)) (λ head. handlers_in ps n s head (aligned p + 4) >>= λ hs. cond head.further (option_map (λ rest. hs ++ rest) (sections_in ps n s fuel (aligned p + 4 + head.count * clause_size head.fat))) (Some hs)) hs h in
+    let head = came (data_section_at s (aligned p)) (λ head. handlers_in ps n s head (aligned p + 4) >>= λ hs. cond head.further (option_map (λ rest. hs ++ rest) (sections_in ps n s fuel (aligned p + 4 + head.count * clause_size head.fat))) (Some hs)) hs h in
     let first = came (handlers_in ps n s head.by (aligned p + 4)) (λ hs. cond head.by.further (option_map (λ rest. hs ++ rest) (sections_in ps n s fuel (aligned p + 4 + head.by.count * clause_size head.by.fat))) (Some hs)) hs head.after in
     let clauses = clauses-found ps n s head.by (aligned p + 4) first.by first.first in
     by_flag ps n s fuel p (λ q xs e. sections-found ps n s fuel q xs e) hs head.by first.by head.first clauses head.by.further refl first.after

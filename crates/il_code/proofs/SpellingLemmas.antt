@@ -15,18 +15,19 @@ use Rattle.il_code.specs.declared.kind.OperandKind as k
 use Rattle.il_code.specs.declared.kind.OperandKind.TheVariants as kind
 use Rattle.cil_base.specs.Token.{Token}
 use Rattle.il_code.specs.Body.{Body}
-use Rattle.il_code.specs.Kinds.{kind_of}
-use Rattle.il_code.specs.Code.{at, code_size, size_of, width_of, width_in, instr_of, placed, placed_operand, Stand, TargetsBelow}
+use Rattle.il_code.specs.Instructions.{kind_of}
+use Rattle.il_code.specs.Code.{at, code_size, size_of, operand_width, width_in, instr_of, placed, placed_operand, Stand, TargetsBelow}
 use Rattle.il_code.specs.Sections.{header_at}
-use Rattle.il_code.specs.Spelling.{placed_kind, placed_handler, FilterBelow, Bounded, Handled, Spells}
-use Rattle.il_code.specs.Numbering.{place_in, places, Rising, each, numbered_instr, numbered_handler, sections_in, handlers_after}
+use Rattle.il_code.specs.Spelling.{placed_kind, placed_handler, FilterBelow, BoundedHandler, Handled, Spells}
+use Rattle.il_code.specs.Numbering.{places, each, numbered_instr, numbered_handler, sections_in, handlers_after}
+use Rattle.il_code.specs.inner.Places.{Rising, instr_place}
 use Rattle.il_code.proofs.CodeLemmas.{same_some, size_of-pos}
 use Rattle.il_code.proofs.NumberingLaws.{each-found, each-only, instr-found, instr-only, handler-found, handler-only}
 use Rattle.il_code.proofs.SectionLemmas.{sections-found, sections-only, sections-length}
 
 -- places do not depend on what targets are
 
-width-placed : (f : ℕ → ℕ) (kind : k.OperandKind) (o : Operand) → width_of kind (placed_operand f o) ≡ width_of kind o
+width-placed : (f : ℕ → ℕ) (kind : k.OperandKind) (o : Operand) → operand_width kind (placed_operand f o) ≡ operand_width kind o
 width-placed f kind.NoOperand o = refl
 width-placed f kind.U8 o = refl
 width-placed f kind.U16 o = refl
@@ -91,14 +92,14 @@ pub places-length : (code : List Instr) → length (places code) ≡ length code
 unfolding places
 places-length code = length-map-range_with_len (at code) 0 (length code + 1)
 
-pub place_in-at : (code : List Instr) (t : ℕ) → t ≤ length code → place_in (places code) t ≡ at code t
+pub instr_place-at : (code : List Instr) (t : ℕ) → t ≤ length code → instr_place (places code) t ≡ at code t
 unfolding places
-place_in-at code t h = get_or-map-range_with_len (at code) 0 (length code + 1) t t 0 (omega arith) (omega arith)
+instr_place-at code t h = get_or-map-range_with_len (at code) 0 (length code + 1) t t 0 (omega arith) (omega arith)
 
 pub places-rise : (code : List Instr) → Rising (places code)
 places-rise code i j h l =
     let len = places-length code in
-    rw (place_in-at code i (omega (arith, l, h, len)), place_in-at code j (omega (arith, l, len))) (at-rises code i j h (omega (arith, l, len)))
+    rw (instr_place-at code i (omega (arith, l, h, len)), instr_place-at code j (omega (arith, l, len))) (at-rises code i j h (omega (arith, l, len)))
 
 -- places that agree where they are asked for
 
@@ -132,7 +133,7 @@ code-agrees f g n (x ∷ code) same all =
     operand_in : (op : ℕ) (a b : Operand) → a ≡ b → instr_of op a ≡ instr_of op b
     operand_in op a b e = ap (instr_of op) e
 
-handler-agrees : (f g : ℕ → ℕ) (n : ℕ) (h : Handler) → ((t : ℕ) → t ≤ n → f t ≡ g t) → Bounded n h → placed_handler f h ≡ placed_handler g h
+handler-agrees : (f g : ℕ → ℕ) (n : ℕ) (h : Handler) → ((t : ℕ) → t ≤ n → f t ≡ g t) → BoundedHandler n h → placed_handler f h ≡ placed_handler g h
 handler-agrees f g n h same b = alike _ _ _ _ _ _ _ _ _ _ (kinds h.kind b.kind) (same h.try_start b.try_start) (same h.try_end b.try_end) (same h.start b.start) (same h.end b.end)
   where
     kinds : (k : HandlerKind) → FilterBelow n k → placed_kind f k ≡ placed_kind g k
@@ -147,7 +148,7 @@ handler-agrees f g n h same b = alike _ _ _ _ _ _ _ _ _ _ (kinds h.kind b.kind) 
     alike : (k k' : HandlerKind) (a a' b b' c c' d d' : ℕ) → k ≡ k' → a ≡ a' → b ≡ b' → c ≡ c' → d ≡ d' → with_parts k a b c d ≡ with_parts k' a' b' c' d'
     alike k k' a a' b b' c c' d d' ek ea eb ec ed = ap (λ k. with_parts k a b c d) ek ∙ ap (λ a. with_parts k' a b c d) ea ∙ ap (λ b. with_parts k' a' b c d) eb ∙ ap (λ c. with_parts k' a' b' c d) ec ∙ ap (λ d. with_parts k' a' b' c' d) ed
 
-handlers-agree : (f g : ℕ → ℕ) (n : ℕ) (hs : List Handler) → ((t : ℕ) → t ≤ n → f t ≡ g t) → AllByRecursion (Bounded n) hs → map (placed_handler f) hs ≡ map (placed_handler g) hs
+handlers-agree : (f g : ℕ → ℕ) (n : ℕ) (hs : List Handler) → ((t : ℕ) → t ≤ n → f t ≡ g t) → AllByRecursion (BoundedHandler n) hs → map (placed_handler f) hs ≡ map (placed_handler g) hs
 handlers-agree f g n [] same all = refl
 handlers-agree f g n (h ∷ hs) same all = ap (λ z. z ∷ map (placed_handler f) hs) (handler-agrees f g n h same all.0) ∙ ap (λ z. placed_handler g h ∷ z) (handlers-agree f g n hs same all.1)
 
@@ -158,53 +159,53 @@ pub record Numbered (raw code : List Instr) : Type 0 where
   pub len : length code ≡ length raw
   pub targets : AllByRecursion (λ (x : Instr). TargetsBelow (length code) x.operand) code
   pub placed : map (placed (at code)) code ≡ raw
-  pub same : (t : ℕ) → t ≤ length code → place_in (places raw) t ≡ at code t
+  pub same : (t : ℕ) → t ≤ length code → instr_place (places raw) t ≡ at code t
 
 pub code-found : (raw code : List Instr) → each (numbered_instr (places raw) (length raw)) raw ≡ Some code → Numbered raw code
 code-found raw code h =
-    let is = each-found (numbered_instr (places raw) (length raw)) (placed (place_in (places raw))) (λ (x : Instr). TargetsBelow (length raw) x.operand) (λ x y e. instr-found (places raw) (length raw) x y e) raw code h in
-    let len : length code ≡ length raw = sym (length-map code (placed (place_in (places raw)))) ∙ ap length is.1 in
-    let at_same : (t : ℕ) → at raw t ≡ at code t = λ t. ap (λ z. at z t) (sym is.1) ∙ at-placed (place_in (places raw)) code t in
-    let same : (t : ℕ) → t ≤ length raw → place_in (places raw) t ≡ at code t = λ t l. place_in-at raw t l ∙ at_same t in
+    let is = each-found (numbered_instr (places raw) (length raw)) (placed (instr_place (places raw))) (λ (x : Instr). TargetsBelow (length raw) x.operand) (λ x y e. instr-found (places raw) (length raw) x y e) raw code h in
+    let len : length code ≡ length raw = sym (length-map code (placed (instr_place (places raw)))) ∙ ap length is.1 in
+    let at_same : (t : ℕ) → at raw t ≡ at code t = λ t. ap (λ z. at z t) (sym is.1) ∙ at-placed (instr_place (places raw)) code t in
+    let same : (t : ℕ) → t ≤ length raw → instr_place (places raw) t ≡ at code t = λ t l. instr_place-at raw t l ∙ at_same t in
     record {
       len = len;
       targets = subst (λ n. AllByRecursion (λ (x : Instr). TargetsBelow n x.operand) code) (sym len) is.0;
-      placed = sym (code-agrees (place_in (places raw)) (at code) (length raw) code (λ t l. same t (omega (arith, l))) is.0) ∙ is.1;
+      placed = sym (code-agrees (instr_place (places raw)) (at code) (length raw) code (λ t l. same t (omega (arith, l))) is.0) ∙ is.1;
       same = λ t l. same t (omega (arith, l, len));
     }
 
 pub code-only : (raw code : List Instr) → raw ≡ map (placed (at code)) code → AllByRecursion (λ (x : Instr). TargetsBelow (length code) x.operand) code → (each (numbered_instr (places raw) (length raw)) raw ≡ Some code) × Numbered raw code
 code-only raw code e targets =
     let len : length raw ≡ length code = ap length e ∙ length-map code (placed (at code)) in
-    let same : (t : ℕ) → t ≤ length code → place_in (places raw) t ≡ at code t = λ t l. place_in-at raw t (omega (arith, l, len)) ∙ ap (λ z. at z t) e ∙ at-placed (at code) code t in
-    let back : map (placed (place_in (places raw))) code ≡ raw = code-agrees (place_in (places raw)) (at code) (length code) code (λ t l. same t (omega (arith, l))) targets ∙ sym e in
-    let made = each-only (numbered_instr (places raw) (length raw)) (placed (place_in (places raw))) (λ (x : Instr). TargetsBelow (length code) x.operand) (λ y b. instr-only (places raw) (length raw) y (places-rise raw) (omega (arith, places-length raw)) (subst (λ n. TargetsBelow n y.operand) (sym len) b)) code targets in
+    let same : (t : ℕ) → t ≤ length code → instr_place (places raw) t ≡ at code t = λ t l. instr_place-at raw t (omega (arith, l, len)) ∙ ap (λ z. at z t) e ∙ at-placed (at code) code t in
+    let back : map (placed (instr_place (places raw))) code ≡ raw = code-agrees (instr_place (places raw)) (at code) (length code) code (λ t l. same t (omega (arith, l))) targets ∙ sym e in
+    let made = each-only (numbered_instr (places raw) (length raw)) (placed (instr_place (places raw))) (λ (x : Instr). TargetsBelow (length code) x.operand) (λ y b. instr-only (places raw) (length raw) y (places-rise raw) (omega (arith, places-length raw)) (subst (λ n. TargetsBelow n y.operand) (sym len) b)) code targets in
     (sym (ap (each (numbered_instr (places raw) (length raw))) back) ∙ made, record { len = sym len; targets = targets; placed = sym e; same = same })
 
-handlers-made : (raw code : List Instr) (xs hs : List Handler) → Numbered raw code → each (numbered_handler (places raw) (length raw)) xs ≡ Some hs → AllByRecursion (Bounded (length code)) hs × (map (placed_handler (at code)) hs ≡ xs)
+handlers-made : (raw code : List Instr) (xs hs : List Handler) → Numbered raw code → each (numbered_handler (places raw) (length raw)) xs ≡ Some hs → AllByRecursion (BoundedHandler (length code)) hs × (map (placed_handler (at code)) hs ≡ xs)
 handlers-made raw code xs hs n h =
-    let is = each-found (numbered_handler (places raw) (length raw)) (placed_handler (place_in (places raw))) (Bounded (length raw)) (λ x y e. handler-found (places raw) (length raw) x y (places-length raw) e) xs hs h in
-    let bounds = subst (λ k. AllByRecursion (Bounded k) hs) (sym n.len) is.0 in
-    (bounds, sym (handlers-agree (place_in (places raw)) (at code) (length code) hs n.same bounds) ∙ is.1)
+    let is = each-found (numbered_handler (places raw) (length raw)) (placed_handler (instr_place (places raw))) (BoundedHandler (length raw)) (λ x y e. handler-found (places raw) (length raw) x y (places-length raw) e) xs hs h in
+    let bounds = subst (λ k. AllByRecursion (BoundedHandler k) hs) (sym n.len) is.0 in
+    (bounds, sym (handlers-agree (instr_place (places raw)) (at code) (length code) hs n.same bounds) ∙ is.1)
 
-handlers-back : (raw code : List Instr) (hs : List Handler) → Numbered raw code → AllByRecursion (Bounded (length code)) hs → each (numbered_handler (places raw) (length raw)) (map (placed_handler (at code)) hs) ≡ Some hs
+handlers-back : (raw code : List Instr) (hs : List Handler) → Numbered raw code → AllByRecursion (BoundedHandler (length code)) hs → each (numbered_handler (places raw) (length raw)) (map (placed_handler (at code)) hs) ≡ Some hs
 handlers-back raw code hs n bounds =
-    ap (each (numbered_handler (places raw) (length raw))) (sym (handlers-agree (place_in (places raw)) (at code) (length code) hs n.same bounds))
-    ∙ each-only (numbered_handler (places raw) (length raw)) (placed_handler (place_in (places raw))) (Bounded (length code)) (λ y b. handler-only (places raw) (length raw) y (places-rise raw) (places-length raw) (subst (λ k. Bounded k y) n.len b)) hs bounds
+    ap (each (numbered_handler (places raw) (length raw))) (sym (handlers-agree (instr_place (places raw)) (at code) (length code) hs n.same bounds))
+    ∙ each-only (numbered_handler (places raw) (length raw)) (placed_handler (instr_place (places raw))) (BoundedHandler (length code)) (λ y b. handler-only (places raw) (length raw) y (places-rise raw) (places-length raw) (subst (λ k. BoundedHandler k y) n.len b)) hs bounds
 
 -- the handlers that are read are those of the header and the sections
 
-pub handlers-found : (raw code : List Instr) (s : List ℕ) (header : Header) (hs : List Handler) → Numbered raw code → handlers_after (places raw) (length raw) s header ≡ Some hs → Handled header.sections s (header.start + header.size) (map (placed_handler (at code)) hs) × AllByRecursion (Bounded (length code)) hs
+pub handlers-found : (raw code : List Instr) (s : List ℕ) (header : Header) (hs : List Handler) → Numbered raw code → handlers_after (places raw) (length raw) s header ≡ Some hs → Handled header.sections s (header.start + header.size) (map (placed_handler (at code)) hs) × AllByRecursion (BoundedHandler (length code)) hs
 handlers-found raw code s header hs n h = by_flag header.sections h
   where
-    by_flag : (t : Bool) → cond t (sections_in (places raw) (length raw) s (length s) (header.start + header.size)) (Some []) ≡ Some hs → Handled t s (header.start + header.size) (map (placed_handler (at code)) hs) × AllByRecursion (Bounded (length code)) hs
+    by_flag : (t : Bool) → cond t (sections_in (places raw) (length raw) s (length s) (header.start + header.size)) (Some []) ≡ Some hs → Handled t s (header.start + header.size) (map (placed_handler (at code)) hs) × AllByRecursion (BoundedHandler (length code)) hs
     by_flag true h =
         let found = sections-found (places raw) (length raw) s (length s) (header.start + header.size) hs h in
         let made = handlers-made raw code (flat_map (λ part. part) found.parts) hs n found.made in
         ((found.parts, sym made.1, found.stand), made.0)
-    by_flag false h = subst (λ z. Handled false s (header.start + header.size) (map (placed_handler (at code)) z) × AllByRecursion (Bounded (length code)) z) (same_some [] hs h) (refl, tt)
+    by_flag false h = subst (λ z. Handled false s (header.start + header.size) (map (placed_handler (at code)) z) × AllByRecursion (BoundedHandler (length code)) z) (same_some [] hs h) (refl, tt)
 
-pub handlers-only : (raw code : List Instr) (s : List ℕ) (header : Header) (hs : List Handler) → Numbered raw code → Handled header.sections s (header.start + header.size) (map (placed_handler (at code)) hs) → AllByRecursion (Bounded (length code)) hs → handlers_after (places raw) (length raw) s header ≡ Some hs
+pub handlers-only : (raw code : List Instr) (s : List ℕ) (header : Header) (hs : List Handler) → Numbered raw code → Handled header.sections s (header.start + header.size) (map (placed_handler (at code)) hs) → AllByRecursion (BoundedHandler (length code)) hs → handlers_after (places raw) (length raw) s header ≡ Some hs
 handlers-only raw code s header hs n handled bounds = by_flag header.sections handled
   where
     nil : (xs : List Handler) → map (placed_handler (at code)) xs ≡ [] → xs ≡ []
@@ -250,12 +251,6 @@ pub record Known (v : Body) (s users : List ℕ) (header : Header) (raw : List I
 pub spelled-header : (v : Body) (s users : List ℕ) → (spelled : Spells v s users) → (header : Header) → header_at s ≡ Some header → spelled.header ≡ header
 spelled-header v s users spelled header h = same_some spelled.header header (sym spelled.heads ∙ h)
 
-pub spelled-stand : (v : Body) (s users : List ℕ) (header : Header) → Spells v s users → header_at s ≡ Some header → Stand users (take header.size (drop header.start s)) 0 (map (placed (at v.code)) v.code)
-spelled-stand v s users header spelled h = subst (λ (z : Header). Stand users (take z.size (drop z.start s)) 0 (map (placed (at v.code)) v.code)) (spelled-header v s users spelled header h) spelled.code
-
-pub spelled-there : (v : Body) (s users : List ℕ) (header : Header) → Spells v s users → header_at s ≡ Some header → header.start + header.size ≤ length s
-spelled-there v s users header spelled h = subst (λ (z : Header). z.start + z.size ≤ length s) (spelled-header v s users spelled header h) spelled.there
-
 pub body-known : (v : Body) (s users : List ℕ) (header : Header) (raw : List Instr) → Spells v s users → header_at s ≡ Some header → raw ≡ map (placed (at v.code)) v.code → Known v s users header raw
 body-known v s users header raw spelled h e =
     let c = code-only raw v.code e spelled.targets in
@@ -274,32 +269,3 @@ body-is v s users header code hs spelled h c k =
 
     alike : (a a' : ℕ) (b b' : Bool) (c c' : Token) (d d' : List Instr) (e e' : List Handler) → a ≡ a' → b ≡ b' → c ≡ c' → d ≡ d' → e ≡ e' → body_of a b c d e ≡ body_of a' b' c' d' e'
     alike a a' b b' c c' d d' e e' ea eb ec ed ee = ap (λ a. body_of a b c d e) ea ∙ ap (λ b. body_of a' b c d e) eb ∙ ap (λ c. body_of a' b' c d e) ec ∙ ap (λ d. body_of a' b' c' d e) ed ∙ ap (λ e. body_of a' b' c' d' e) ee
-
--- what is known once the instructions are read
-pub record Facts (s users code : List ℕ) (header : Header) (raw : List Instr) : Type 0 where
-  pub heads : header_at s ≡ Some header
-  pub there : header.start + header.size ≤ length s
-  pub bytes : code ≡ take header.size (drop header.start s)
-  pub found : Stand users code 0 raw
-  pub only : (xs : List Instr) → Stand users code 0 xs → Some raw ≡ Some xs
-
-pub known-of : (s users code : List ℕ) (header : Header) (raw : List Instr) → Facts s users code header raw → (v : Body) → Spells v s users → Known v s users header raw
-known-of s users code header raw facts v spelled =
-    let stand : Stand users code 0 (map (placed (at v.code)) v.code) = subst (λ b. Stand users b 0 (map (placed (at v.code)) v.code)) (sym facts.bytes) (spelled-stand v s users header spelled facts.heads) in
-    body-known v s users header raw spelled facts.heads (same_some raw (map (placed (at v.code)) v.code) (facts.only _ stand))
-
-pub found-of : (s users code : List ℕ) (header : Header) (raw made : List Instr) (hs : List Handler) → Facts s users code header raw → each (numbered_instr (places raw) (length raw)) raw ≡ Some made → handlers_after (places raw) (length raw) s header ≡ Some hs → length hs < 2 ^ 32
-    → Spells (record { max_stack = header.max_stack; init_locals = header.init_locals; locals = header.locals; code = made; handlers = hs }) s users
-found-of s users code header raw made hs facts m h few = body-found s users header raw made hs facts.heads facts.there (subst (λ b. Stand users b 0 raw) facts.bytes facts.found) m h few
-
-pub is-of : (s users code : List ℕ) (header : Header) (raw made : List Instr) (hs : List Handler) → Facts s users code header raw → each (numbered_instr (places raw) (length raw)) raw ≡ Some made → handlers_after (places raw) (length raw) s header ≡ Some hs → (v : Body) → Spells v s users
-    → record { max_stack = header.max_stack; init_locals = header.init_locals; locals = header.locals; code = made; handlers = hs } ≡ v
-is-of s users code header raw made hs facts m h v spelled =
-    let k = known-of s users code header raw facts v spelled in
-    body-is v s users header made hs spelled facts.heads (same_some v.code made (sym k.made ∙ m)) (same_some v.handlers hs (sym k.handled ∙ h))
-
-pub made-length : (raw code : List Instr) → each (numbered_instr (places raw) (length raw)) raw ≡ Some code → length code ≡ length raw
-made-length raw code h = (code-found raw code h).len
-
-pub none-some : {A : Type 0} (o : Option A) (x : A) → o ≡ None → o ≡ Some x → ⊥
-none-some o x h k = cc

@@ -7,12 +7,15 @@ use Rattle.std.proofs.lemmas.Bool.Decides.{nat_tests}
 use Rattle.il_code.specs.declared.instr.Instr.{Instr}
 use Rattle.il_code.specs.declared.handler.Handler.{Handler}
 use Rattle.il_code.specs.Body.{Body}
-use Rattle.il_code.specs.Kinds.{kind_of}
+use Rattle.il_code.specs.Instructions.{kind_of}
 use Rattle.il_code.specs.Code.{at, placed, Stand}
 use Rattle.il_code.specs.Spelling.{placed_handler, Handled, Spells}
-use Rattle.il_code.specs.Layout.{code_bytes, has_handlers, header_bytes, clause_of, section_bytes, front_bytes, laid, layout}
+use Rattle.il_code.specs.BodyBytes.{front_bytes, body_bytes_by, body_bytes}
+use Rattle.il_code.specs.CodeBytes.{code_bytes}
+use Rattle.il_code.specs.HeaderBytes.{has_handlers, header_bytes}
+use Rattle.il_code.specs.SectionBytes.{clause_of, section_bytes}
 use Rattle.il_code.specs.Refusal.{first_far, refused_by, refusal_of}
-use Rattle.il_code.specs.Ranges.{OperandFits, KindFits, BodyFits}
+use Rattle.il_code.specs.inner.Ranges.{OperandFits, KindFits, BodyFits}
 use Rattle.il_code.specs.Writable.{IsOfKind, IsSound, IsSoundHandler, Writable, NameTexts}
 use Rattle.il_code.proofs.SpellingLemmas.{at-rises}
 use Rattle.il_code.proofs.LayoutLemmas.{all-map, targets-of, bounds-of}
@@ -91,14 +94,14 @@ parted-by v texts f false e =
       handled = subst (λ t. Handled t front (length front) (map (placed_handler (at v.code)) v.handlers)) (sym e) (ap (map (placed_handler (at v.code))) (no-handlers v.handlers e));
     }
 
-parted : (v : Body) (texts : List ℕ) → BodyFacts v texts → Parted v texts (layout v texts)
-unfolding layout laid
+parted : (v : Body) (texts : List ℕ) → BodyFacts v texts → Parted v texts (body_bytes v texts)
+unfolding body_bytes body_bytes_by
 parted v texts f = parted-by v texts f (has_handlers v) refl
 
 -- what is written is read back as the body
-pub written-spells : (v : Body) (texts users : List ℕ) → BodyFacts v texts → NameTexts users texts v.code → Spells v (layout v texts) users
+pub written-spells : (v : Body) (texts users : List ℕ) → BodyFacts v texts → NameTexts users texts v.code → Spells v (body_bytes v texts) users
 written-spells v texts users f names =
-    let s : List ℕ = layout v texts in
+    let s : List ℕ = body_bytes v texts in
     let size : ℕ = at v.code (length v.code) in
     let head : List ℕ = header_bytes v size in
     let code : List ℕ = code_bytes (at v.code) texts v.code in
@@ -137,7 +140,7 @@ unrefused-body : (v : Body) → refusal_of v ≡ None → (first_far (at v.code)
 unfolding refusal_of
 unrefused-body v h = unrefused-parts (first_far (at v.code) v.code) (at v.code (length v.code)) (length v.handlers) h
 
-pub read-back : (v : Body) (texts bytes : List ℕ) → Writable v → refusal_of v ≡ None → BodyFits v → ((j : ℕ) → get_or texts j 0 < 2 ^ 32) → bytes ≡ layout v texts → (users : List ℕ) → NameTexts users texts v.code → Spells v bytes users
+pub read-back : (v : Body) (texts bytes : List ℕ) → Writable v → refusal_of v ≡ None → BodyFits v → ((j : ℕ) → get_or texts j 0 < 2 ^ 32) → bytes ≡ body_bytes v texts → (users : List ℕ) → NameTexts users texts v.code → Spells v bytes users
 read-back v texts bytes writable refused fits tokens is users names =
     let parts = unrefused-body v refused in
     subst (λ b. Spells v b users) (sym is)

@@ -1,16 +1,20 @@
 -- Instructions one after the other: ECMA-335 III.1.7 and VI.C.2.
-use Rattle.std.specs.Prelude.{◌≡◌, ◌==◌, ℕ, ◌+◌, ◌*◌, ◌/◌, ◌%◌, ◌^◌, ◌<◌, List, [], ◌∷◌, length, map, take, Option, Some, None, nat_lt, if◌then◌else◌, option_map}
+use Rattle.std.specs.Prelude.{◌≡◌, ◌==◌, ℕ, ◌+◌, ◌*◌, ◌/◌, ◌%◌, ◌^◌, ◌<◌, List, [], ◌∷◌, length, map, take, Option}
+use Rattle.std.specs.Prelude.{Some, None, nat_lt, if◌then◌else◌, option_map}
 use Rattle.std.specs.Int.{cast_signed, w8, w32, w64}
 use Rattle.std.specs.List.{AllByRecursion, sum_by, range_with_len}
-use Rattle.byteorder.specs.Endian.{little_from}
 use Rattle.il_code.specs.declared.kind.OperandKind as k
 use Rattle.il_code.specs.declared.kind.OperandKind.TheVariants as kind
 use Rattle.il_code.specs.declared.operand.Operand.{Operand}
 use Rattle.il_code.specs.declared.operand.Operand.TheVariants as of
 use Rattle.il_code.specs.declared.instr.Instr.{Instr}
 use Rattle.cil_base.specs.Heaps.{units}
-use Rattle.il_code.specs.Kinds.{kind_of}
-use Rattle.il_code.specs.Numbers.{◌>>=◌, number_at, target_at, token_of, items_at}
+use Rattle.il_code.specs.Instructions.{kind_of}
+use Rattle.cil_base.specs.Place.{number_at, number_within}
+use Rattle.cil_base.specs.Steps.{◌>>=◌}
+use Rattle.cil_base.specs.Token.{token_from}
+use Rattle.il_code.specs.Items.{items_at}
+use Rattle.il_code.specs.Targets.{target_at}
 
 -- how many targets an operand has
 abbrev pub target_count : Operand → ℕ
@@ -18,20 +22,20 @@ target_count (of.Switch targets) = length targets
 target_count _ = 0
 
 -- how many bytes an operand of a kind takes
-abbrev pub width_of : k.OperandKind → Operand → ℕ
-width_of kind.NoOperand operand = 0
-width_of kind.U8 operand = 1
-width_of kind.U16 operand = 2
-width_of kind.I8 operand = 1
-width_of kind.I32 operand = 4
-width_of kind.I64 operand = 8
-width_of kind.R4 operand = 4
-width_of kind.R8 operand = 8
-width_of kind.Token operand = 4
-width_of kind.Text operand = 4
-width_of kind.ShortBranch operand = 1
-width_of kind.Branch operand = 4
-width_of kind.Switch operand = 4 + 4 * target_count operand
+abbrev pub operand_width : k.OperandKind → Operand → ℕ
+operand_width kind.NoOperand operand = 0
+operand_width kind.U8 operand = 1
+operand_width kind.U16 operand = 2
+operand_width kind.I8 operand = 1
+operand_width kind.I32 operand = 4
+operand_width kind.I64 operand = 8
+operand_width kind.R4 operand = 4
+operand_width kind.R8 operand = 8
+operand_width kind.Token operand = 4
+operand_width kind.Text operand = 4
+operand_width kind.ShortBranch operand = 1
+operand_width kind.Branch operand = 4
+operand_width kind.Switch operand = 4 + 4 * target_count operand
 
 -- how many bytes a code takes
 unfoldable pub code_size : ℕ → ℕ
@@ -39,7 +43,7 @@ code_size op = if nat_lt op 0x100 then 1 else 2
 
 abbrev pub width_in : Option k.OperandKind → Operand → ℕ
 width_in None operand = 0
-width_in (Some kind) operand = width_of kind operand
+width_in (Some kind) operand = operand_width kind operand
 
 -- how many bytes an instruction takes
 unfoldable pub size_of : Instr → ℕ
@@ -51,35 +55,39 @@ at code i = sum_by size_of (take i code)
 
 -- UTF-16 units, the lower byte of each first
 unfoldable pub utf16 : List ℕ → List ℕ
-utf16 bytes = map (λ i. little_from (2 * i) 2 bytes) (range_with_len 0 (length bytes / 2))
+utf16 bytes = map (λ i. number_at bytes (2 * i) 2) (range_with_len 0 (length bytes / 2))
 
 -- the text of a user string's token, which is of table 70
-unfoldable pub text_of : List ℕ → ℕ → Option (List ℕ)
-text_of users n = if n / 2 ^ 24 == 0x70 then option_map utf16 (units users (n % 2 ^ 24)) else None
+unfoldable pub user_text : List ℕ → ℕ → Option (List ℕ)
+user_text users n = if n / 2 ^ 24 == 0x70 then option_map utf16 (units users (n % 2 ^ 24)) else None
 
 -- one target of a switch, in four bytes, counted from the place after the switch
 unfoldable pub switch_target_at : List ℕ → ℕ → ℕ → Option ℕ
-switch_target_at b after p = number_at 4 b p >>= λ n. target_at b (2 ^ 31) after n
+switch_target_at b after p = number_within b p 4 >>= λ n. target_at b (2 ^ 31) after n
 
 -- the operand of a kind that stands at a place of the code's bytes; its targets are places
 unfoldable pub operand_at : List ℕ → List ℕ → ℕ → k.OperandKind → Option Operand
 operand_at users b p kind.NoOperand = Some of.None
-operand_at users b p kind.U8 = option_map of.U8 (number_at 1 b p)
-operand_at users b p kind.U16 = option_map of.U16 (number_at 2 b p)
-operand_at users b p kind.I8 = option_map (λ n. of.I8 (cast_signed w8 n)) (number_at 1 b p)
-operand_at users b p kind.I32 = option_map (λ n. of.I32 (cast_signed w32 n)) (number_at 4 b p)
-operand_at users b p kind.I64 = option_map (λ n. of.I64 (cast_signed w64 n)) (number_at 8 b p)
-operand_at users b p kind.R4 = option_map of.R4 (number_at 4 b p)
-operand_at users b p kind.R8 = option_map of.R8 (number_at 8 b p)
-operand_at users b p kind.Token = option_map (λ n. of.Tok (token_of n)) (number_at 4 b p)
-operand_at users b p kind.Text = number_at 4 b p >>= λ n. option_map of.Text (text_of users n)
-operand_at users b p kind.ShortBranch = number_at 1 b p >>= λ n. option_map of.Target (target_at b (2 ^ 7) (p + 1) n)
-operand_at users b p kind.Branch = number_at 4 b p >>= λ n. option_map of.Target (target_at b (2 ^ 31) (p + 4) n)
-operand_at users b p kind.Switch = number_at 4 b p >>= λ count. option_map of.Switch (items_at (switch_target_at b (p + 4 + 4 * count)) 4 (p + 4) count)
+operand_at users b p kind.U8 = option_map of.U8 (number_within b p 1)
+operand_at users b p kind.U16 = option_map of.U16 (number_within b p 2)
+operand_at users b p kind.I8 = option_map (λ n. of.I8 (cast_signed w8 n)) (number_within b p 1)
+operand_at users b p kind.I32 = option_map (λ n. of.I32 (cast_signed w32 n)) (number_within b p 4)
+operand_at users b p kind.I64 = option_map (λ n. of.I64 (cast_signed w64 n)) (number_within b p 8)
+operand_at users b p kind.R4 = option_map of.R4 (number_within b p 4)
+operand_at users b p kind.R8 = option_map of.R8 (number_within b p 8)
+operand_at users b p kind.Token = option_map (λ n. of.Tok (token_from n)) (number_within b p 4)
+operand_at users b p kind.Text = number_within b p 4 >>= λ n. option_map of.Text (user_text users n)
+operand_at users b p kind.ShortBranch = number_within b p 1 >>= λ n.
+    option_map of.Target (target_at b (2 ^ 7) (p + 1) n)
+operand_at users b p kind.Branch = number_within b p 4 >>= λ n. option_map of.Target (target_at b (2 ^ 31) (p + 4) n)
+operand_at users b p kind.Switch = number_within b p 4 >>= λ count.
+    option_map of.Switch (items_at (switch_target_at b (p + 4 + 4 * count)) 4 (p + 4) count)
 
 -- the code at a place: one byte, or FE and a second
 unfoldable pub code_at : List ℕ → ℕ → Option ℕ
-code_at b p = number_at 1 b p >>= λ first. if first == 0xFE then option_map (λ second. 0xFE00 + second) (number_at 1 b (p + 1)) else Some first
+code_at b p =
+    number_within b p 1 >>= λ first.
+    if first == 0xFE then option_map (λ second. 0xFE00 + second) (number_within b (p + 1) 1) else Some first
 
 -- the instruction of a code and an operand
 abbrev pub instr_of : ℕ → Operand → Instr
@@ -87,7 +95,8 @@ instr_of op operand = record { op = op; operand = operand }
 
 -- the instruction that stands at a place of the code's bytes; its targets are places
 unfoldable pub instr_at : List ℕ → List ℕ → ℕ → Option Instr
-instr_at users b p = code_at b p >>= λ op. kind_of op >>= λ kind. option_map (instr_of op) (operand_at users b (p + code_size op) kind)
+instr_at users b p = code_at b p >>= λ op. kind_of op >>= λ kind.
+    option_map (instr_of op) (operand_at users b (p + code_size op) kind)
 
 -- the instructions stand in the code's bytes from a place to their end, one after the other
 abbrev pub Stand : List ℕ → List ℕ → ℕ → List Instr → Type 0

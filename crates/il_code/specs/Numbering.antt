@@ -1,5 +1,6 @@
--- From places to the numbers of instructions: the decoder's own words. No public contract cites them.
-use Rattle.std.specs.Prelude.{◌==◌, ◌++◌, ◌*◌, Bool, ℕ, zero, suc, ◌+◌, List, [], ◌∷◌, length, get_or, map, ◌<◌, Option, Some, None, nat_lt, if◌then◌else◌, option_map}
+-- From the places of instructions to their numbers: ECMA-335 III.1.7.2 and II.25.4.6.
+use Rattle.std.specs.Prelude.{◌==◌, ◌++◌, ◌*◌, Bool, ℕ, zero, suc, ◌+◌, List, [], ◌∷◌, length, map, Option}
+use Rattle.std.specs.Prelude.{Some, None, nat_lt, if◌then◌else◌, option_map}
 use Rattle.std.specs.List.{range_with_len}
 use Rattle.il_code.specs.declared.operand.Operand.{Operand}
 use Rattle.il_code.specs.declared.operand.Operand.TheVariants as of
@@ -10,20 +11,13 @@ use Rattle.il_code.specs.declared.handler.Handler.{Handler}
 use Rattle.il_code.specs.Code.{at, instr_of}
 use Rattle.il_code.specs.declared.header.Header.{Header}
 use Rattle.il_code.specs.declared.section.Section.{Section}
-use Rattle.il_code.specs.Numbers.{◌>>=◌, items_at}
-use Rattle.il_code.specs.Sections.{aligned, clause_at, clause_size, section_at}
+use Rattle.cil_base.specs.Steps.{◌>>=◌}
+use Rattle.il_code.specs.Items.{items_at}
+use Rattle.il_code.specs.Sections.{aligned, clause_at, clause_size, data_section_at}
 
 -- the places of the instructions, and the end of the last
 unfoldable pub places : List Instr → List ℕ
 places code = map (at code) (range_with_len 0 (length code + 1))
-
--- the place of a number
-abbrev pub place_in : List ℕ → ℕ → ℕ
-place_in ps t = get_or ps t 0
-
--- each place is below those after it
-abbrev pub Rising : List ℕ → Type 0
-Rising ps = (i j : ℕ) → i < j → j < length ps → get_or ps i 0 < get_or ps j 0
 
 -- the number of the instruction that stands at a place, or the number of all at the end
 unfoldable pub number_in : List ℕ → ℕ → Option ℕ
@@ -40,14 +34,14 @@ unfoldable pub target_in : List ℕ → ℕ → ℕ → Option ℕ
 target_in ps n p = number_in ps p >>= λ t. if nat_lt t n then Some t else None
 
 -- an operand with numbers in place of places
-unfoldable pub numbered : List ℕ → ℕ → Operand → Option Operand
-numbered ps n (of.Target p) = option_map of.Target (target_in ps n p)
-numbered ps n (of.Switch targets) = option_map of.Switch (each (target_in ps n) targets)
-numbered ps n operand = Some operand
+unfoldable pub numbered_operand : List ℕ → ℕ → Operand → Option Operand
+numbered_operand ps n (of.Target p) = option_map of.Target (target_in ps n p)
+numbered_operand ps n (of.Switch targets) = option_map of.Switch (each (target_in ps n) targets)
+numbered_operand ps n operand = Some operand
 
 -- an instruction with numbers in place of places
 unfoldable pub numbered_instr : List ℕ → ℕ → Instr → Option Instr
-numbered_instr ps n x = option_map (instr_of x.op) (numbered ps n x.operand)
+numbered_instr ps n x = option_map (instr_of x.op) (numbered_operand ps n x.operand)
 
 -- a handler's kind with a number in place of the filter's place
 unfoldable pub numbered_kind : List ℕ → ℕ → HandlerKind → Option HandlerKind
@@ -57,7 +51,8 @@ numbered_kind ps n kind = Some kind
 -- a handler with numbers in place of places
 unfoldable pub numbered_handler : List ℕ → ℕ → Handler → Option Handler
 numbered_handler ps n h =
-    numbered_kind ps n h.kind >>= λ kind. number_in ps h.try_start >>= λ try_start. number_in ps h.try_end >>= λ try_end.
+    numbered_kind ps n h.kind >>= λ kind. number_in ps h.try_start >>= λ try_start.
+    number_in ps h.try_end >>= λ try_end.
     number_in ps h.start >>= λ start. number_in ps h.end >>= λ end.
     Some (record { kind = kind; try_start = try_start; try_end = try_end; start = start; end = end })
 
@@ -73,17 +68,12 @@ handlers_in ps n s head p = items_at (numbered_clause ps n head.fat s) (clause_s
 unfoldable pub sections_in : List ℕ → ℕ → List ℕ → ℕ → ℕ → Option (List Handler)
 sections_in ps n s zero p = None
 sections_in ps n s (suc fuel) p =
-    section_at s (aligned p) >>= λ head. handlers_in ps n s head (aligned p + 4) >>= λ hs.
-    if head.further then option_map (λ rest. hs ++ rest) (sections_in ps n s fuel (aligned p + 4 + head.count * clause_size head.fat)) else Some hs
-
--- the handlers read so far, and one more
-abbrev pub with_last : List Handler → Option Handler → Option (List Handler)
-with_last front read = option_map (λ h. front ++ h ∷ []) read
-
--- the handlers read so far, and those to come
-abbrev pub after_front : List Handler → Option (List Handler) → Option (List Handler)
-after_front front read = option_map (λ rest. front ++ rest) read
+    data_section_at s (aligned p) >>= λ head. handlers_in ps n s head (aligned p + 4) >>= λ hs.
+    if head.further
+    then option_map (λ rest. hs ++ rest) (sections_in ps n s fuel (aligned p + 4 + head.count * clause_size head.fat))
+    else Some hs
 
 -- the handlers of a body with that header
 abbrev pub handlers_after : List ℕ → ℕ → List ℕ → Header → Option (List Handler)
-handlers_after ps n s header = if header.sections then sections_in ps n s (length s) (header.start + header.size) else Some []
+handlers_after ps n s header = if header.sections then sections_in ps n s (length s) (header.start + header.size)
+    else Some []

@@ -16,7 +16,13 @@ placed_kind place kind = kind
 
 -- a handler with places as its bounds
 abbrev pub placed_handler : (ℕ → ℕ) → Handler → Handler
-placed_handler place h = record { kind = placed_kind place h.kind; try_start = place h.try_start; try_end = place h.try_end; start = place h.start; end = place h.end }
+placed_handler place h = record {
+  kind = placed_kind place h.kind;
+  try_start = place h.try_start;
+  try_end = place h.try_end;
+  start = place h.start;
+  end = place h.end;
+}
 
 -- a filter begins at an instruction
 abbrev pub FilterBelow : ℕ → HandlerKind → Type 0
@@ -24,7 +30,7 @@ FilterBelow n (Filter start) = start < n
 FilterBelow n _ = Unit {0}
 
 -- each bound is the number of an instruction, or of instructions where it is no filter's start
-pub record Bounded (n : ℕ) (h : Handler) : Type 0 where
+pub record BoundedHandler (n : ℕ) (h : Handler) : Type 0 where
   pub kind : FilterBelow n h.kind
   pub try_start : h.try_start ≤ n
   pub try_end : h.try_end ≤ n
@@ -36,8 +42,9 @@ abbrev pub Handled : Bool → List ℕ → ℕ → List Handler → Type 0
 Handled false s p hs = hs ≡ []
 Handled true s p hs = (parts : List (List Handler)) × (flat_map (λ part. part) parts ≡ hs) × Sections s p parts
 
--- a front of the bytes s spells the body, whose texts stand in the heap #US: a header with its numbers, its instructions one after
--- the other, and sections with its handlers. Targets and bounds are spelled by the places where those instructions stand.
+-- a front of the bytes s spells the body, whose texts stand in the heap #US: a header with its numbers, its
+-- instructions one after the other, and sections with its handlers. Targets and bounds are spelled by the places where
+-- those instructions stand.
 pub record Spells (v : Body) (s users : List ℕ) : Type 0 where
   pub header : Header
   pub heads : header_at s ≡ Some header
@@ -48,5 +55,5 @@ pub record Spells (v : Body) (s users : List ℕ) : Type 0 where
   pub code : Stand users (take header.size (drop header.start s)) 0 (map (placed (at v.code)) v.code)
   pub targets : AllByRecursion (λ x. TargetsBelow (length v.code) x.operand) v.code
   pub handlers : Handled header.sections s (header.start + header.size) (map (placed_handler (at v.code)) v.handlers)
-  pub bounds : AllByRecursion (Bounded (length v.code)) v.handlers
+  pub bounds : AllByRecursion (BoundedHandler (length v.code)) v.handlers
   pub few : length v.handlers < 2 ^ 32

@@ -8,8 +8,8 @@ use Rattle.il_code.specs.declared.operand.Operand.TheVariants as of
 use Rattle.il_code.specs.declared.instr.Instr.{Instr}
 use Rattle.il_code.specs.declared.handler.Handler.{Handler}
 use Rattle.il_code.specs.Body.{Body}
-use Rattle.il_code.specs.Kinds.{kind_of}
-use Rattle.il_code.specs.Code.{TargetsBelow, text_of}
+use Rattle.il_code.specs.Instructions.{kind_of}
+use Rattle.il_code.specs.Code.{TargetsBelow, user_text}
 use Rattle.il_code.specs.Spelling.{FilterBelow}
 
 -- an operand is one of a code's kind
@@ -56,4 +56,4 @@ texts_of code = flat_map (λ (x : Instr). operand_texts x.operand) code
 
 -- the tokens name the texts of instructions in the heap #US, in order
 abbrev pub NameTexts : List ℕ → List ℕ → List Instr → Type 0
-NameTexts users texts code = map (text_of users) texts ≡ map Some (texts_of code)
+NameTexts users texts code = map (user_text users) texts ≡ map Some (texts_of code)

@@ -6,7 +6,7 @@ use cil_base::{List, NoMemory, Token};
 use std::marker::Model;
 
 /// A method's body (ECMA-335 II.25.4). It has fewer than 2^32 instructions and fewer than 2^32 handlers.
-#[derive(Debug, Drop, PartialEq, Eq)]
+#[derive(Drop, PartialEq, Eq)]
 pub struct Body {
     pub max_stack: u16,
     pub init_locals: bool,
@@ -22,11 +22,23 @@ impl Model for Body {
 
     ghost Value = { Body };
 
-    ghost view = { λ b. record { max_stack = b.max_stack; init_locals = b.init_locals; locals = b.locals; code = b.code; handlers = b.handlers } };
+    ghost view = { λ b. record {
+      max_stack = b.max_stack;
+      init_locals = b.init_locals;
+      locals = b.locals;
+      code = b.code;
+      handlers = b.handlers;
+    } };
 
     ghost invariant = { λ b. (length b.code < 2 ^ 32) × (length b.handlers < 2 ^ 32) };
 
-    ghost inverse = { λ b. record { max_stack = b.max_stack; init_locals = b.init_locals; locals = b.locals; code = b.code; handlers = b.handlers } };
+    ghost inverse = { λ b. record {
+      max_stack = b.max_stack;
+      init_locals = b.init_locals;
+      locals = b.locals;
+      code = b.code;
+      handlers = b.handlers;
+    } };
 }
 
 impl Body {

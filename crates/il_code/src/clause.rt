@@ -11,16 +11,19 @@
 
 ghost use Rattle.std.specs.Prelude.{◌≡◌, ◌+◌, ◌<◌, ◌≤◌, ◌^◌, true, false, IfOk, length};
 ghost use Rattle.il_code.specs.Sections.{fields_at, handler_kind};
-ghost use Rattle.il_code.specs.Numbering.{Rising, after_front, handlers_in, with_last, numbered_kind, numbered_clause};
+ghost use Rattle.il_code.specs.Numbering.{handlers_in, numbered_kind, numbered_clause};
+ghost use Rattle.il_code.specs.inner.Numbering.{after_front, with_last};
 
+use crate::fields::{u8_at, u16_at, u32_at};
+use crate::format::{CLAUSE_EXCEPTION, CLAUSE_FAULT, CLAUSE_FILTER, CLAUSE_FINALLY};
 use crate::handler::{Handler, HandlerKind};
-use crate::number::{number_of, target_of};
-use crate::numbers::{token, u8_at, u16_at, u32_at};
+use crate::numbering::target_of;
+use crate::places::{Places, number_of};
 use crate::section::{Section, clause_len};
-use cil_base::{List, NoMemory};
+use cil_base::{List, NoMemory, Token};
 
 /// The fields of a clause.
-#[derive(Clone, Copy, Debug, PartialEq, Eq)]
+#[derive(Clone, Copy)]
 pub struct Clause {
     pub flags: u32,
     pub try_offset: u32,
@@ -92,24 +95,22 @@ fn read_kind(flags: u32, last: u32) -> Option<HandlerKind>
     ensures { result ≡ handler_kind flags last }
 {
     match flags {
-        0 => Some(HandlerKind::Typed(token(last))),
-        1 => Some(HandlerKind::Filter(last)),
-        2 => Some(HandlerKind::Finally),
-        4 => Some(HandlerKind::Fault),
+        CLAUSE_EXCEPTION => Some(HandlerKind::Typed(Token::from_number(last))),
+        CLAUSE_FILTER => Some(HandlerKind::Filter(last)),
+        CLAUSE_FINALLY => Some(HandlerKind::Finally),
+        CLAUSE_FAULT => Some(HandlerKind::Fault),
         _ => None,
     }
 }
 
 /// The kind of a handler with a number in place of its filter's place.
 #[tactic(auto, unfolding(crate::specs::Numbering::numbered_kind))]
-fn number_kind(places: &[u128], count: usize, kind: HandlerKind) -> Option<HandlerKind>
-    requires size { length places.now ≤ 2 ^ 32 }
-    requires rising { Rising places.now }
-    ensures { result ≡ numbered_kind places.now count kind }
+fn number_kind(places: &Places, kind: HandlerKind) -> Option<HandlerKind>
+    ensures { result ≡ numbered_kind places.now.starts places.now.count kind }
 {
     match kind {
         HandlerKind::Filter(place) => {
-            let start = target_of(places, count, place as u64)?;
+            let start = target_of(places, place as u64)?;
             Some(HandlerKind::Filter(start))
         }
         other => Some(other),
@@ -118,21 +119,13 @@ fn number_kind(places: &[u128], count: usize, kind: HandlerKind) -> Option<Handl
 
 /// The handler of the clause at a place. None where a bound is no place of an instruction.
 #[tactic(auto, unfolding(crate::specs::Numbering::numbered_clause, crate::specs::Numbering::numbered_handler, crate::specs::Sections::clause_at, crate::specs::Sections::handler_of))]
-fn read_clause(
-    places: &[u128],
-    count: usize,
-    bytes: &[u8],
-    place: usize,
-    fat: bool,
-) -> Option<Handler>
-    requires size { length places.now ≤ 2 ^ 32 }
-    requires rising { Rising places.now }
+fn read_clause(places: &Places, bytes: &[u8], place: usize, fat: bool) -> Option<Handler>
     requires place { place < 2 ^ 63 + 2 ^ 40 }
-    ensures { result ≡ numbered_clause places.now count fat bytes.now place }
+    ensures { result ≡ numbered_clause places.now.starts places.now.count fat bytes.now place }
 {
     let clause = read_fields(bytes, place, fat)?;
     let kind = read_kind(clause.flags, clause.last)?;
-    let kind = number_kind(places, count, kind)?;
+    let kind = number_kind(places, kind)?;
     let try_start = number_of(places, clause.try_offset as u64)?;
     let try_end = number_of(places, clause.try_offset as u64 + clause.try_len as u64)?;
     let start = number_of(places, clause.offset as u64)?;
@@ -149,18 +142,16 @@ fn read_clause(
 /// The handlers so far, with that of the clause at a place. None where it is not there.
 fn add_clause(
     handlers: List<Handler>,
-    places: &[u128],
-    count: usize,
+    places: &Places,
     bytes: &[u8],
     place: usize,
     fat: bool,
 ) -> Result<Option<List<Handler>>, NoMemory>
-    requires size { length places.now ≤ 2 ^ 32 }
-    requires rising { Rising places.now }
     requires place { place < 2 ^ 63 + 2 ^ 40 }
-    ensures { IfOk result (λ all. all ≡ with_last handlers (numbered_clause places.now count fat bytes.now place)) }
+    ensures { IfOk result (λ all. all
+        ≡ with_last handlers (numbered_clause places.now.starts places.now.count fat bytes.now place)) }
 {
-    let Some(handler) = read_clause(places, count, bytes, place, fat) else {
+    let Some(handler) = read_clause(places, bytes, place, fat) else {
         return Ok(None);
     };
     let mut all = handlers;
@@ -168,26 +159,25 @@ fn add_clause(
     Ok(Some(all))
 }
 
-/// The handlers so far, with those of a section whose clauses begin at a place. None where one of its clauses is not there.
+/// The handlers so far, with those of a section whose clauses begin at a place. None where one of its clauses is not
+/// there.
 #[tactic(auto, unfolding(crate::specs::Numbering::handlers_in))]
 pub(crate) fn read_clauses(
     handlers: List<Handler>,
-    places: &[u128],
-    count: usize,
+    places: &Places,
     bytes: &[u8],
     section: Section,
     place: usize,
 ) -> Result<Option<List<Handler>>, NoMemory>
-    requires size { length places.now ≤ 2 ^ 32 }
-    requires rising { Rising places.now }
     requires place { place < 2 ^ 63 + 2 ^ 33 }
     requires section { section.count < 2 ^ 24 }
-    ensures { IfOk result (λ all. all ≡ after_front handlers (handlers_in places.now count bytes.now section place)) }
+    ensures { IfOk result (λ all. all
+        ≡ after_front handlers (handlers_in places.now.starts places.now.count bytes.now section place)) }
 {
     let mut all = handlers;
     let len = clause_len(section.fat);
     for i in 0..section.count as usize {
-        let Some(more) = add_clause(all, places, count, bytes, place + len * i, section.fat)? else {
+        let Some(more) = add_clause(all, places, bytes, place + len * i, section.fat)? else {
             return Ok(None);
         };
         all = more;

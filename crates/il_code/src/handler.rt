@@ -1,7 +1,7 @@
 use cil_base::Token;
 
 /// What a handler is for (ECMA-335 II.25.4.6).
-#[derive(Clone, Copy, Debug, PartialEq, Eq)]
+#[derive(Clone, Copy, PartialEq, Eq)]
 pub enum HandlerKind {
     /// Exceptions of a type.
     Typed(Token),
@@ -11,9 +11,9 @@ pub enum HandlerKind {
     Fault,
 }
 
-/// A protected range of instructions and its handler, by the numbers of instructions. An end is the first instruction past the
-/// range, or the number of instructions.
-#[derive(Clone, Copy, Debug, PartialEq, Eq)]
+/// A protected range of instructions and its handler, by the numbers of instructions. An end is the first instruction
+/// past the range, or the number of instructions.
+#[derive(Clone, Copy, PartialEq, Eq)]
 pub struct Handler {
     pub kind: HandlerKind,
     pub try_start: u32,

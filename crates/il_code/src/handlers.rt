@@ -1,8 +1,10 @@
-ghost use Rattle.std.specs.Prelude.{◌≡◌, ◌≤◌, ◌^◌, IfOk, length};
-ghost use Rattle.il_code.specs.Numbering.{Rising, sections_in};
+ghost use Rattle.std.specs.Prelude.{◌≡◌, ◌≤◌, IfOk, length};
+ghost use Rattle.il_code.specs.Numbering.{sections_in};
 
 use crate::clause::read_clauses;
+use crate::format::SECT_LEN;
 use crate::handler::Handler;
+use crate::places::Places;
 use crate::section::{align, clause_len, read_section};
 use cil_base::{List, NoMemory};
 use std::alloc::Global;
@@ -10,15 +12,13 @@ use std::alloc::Global;
 /// The handlers of the sections behind a place. None where those are not whole.
 pub(crate) fn read_sections(
     alloc: Global,
-    places: &[u128],
-    count: usize,
+    places: &Places,
     bytes: &[u8],
     place: usize,
 ) -> Result<Option<List<Handler>>, NoMemory>
-    requires size { length places.now ≤ 2 ^ 32 }
-    requires rising { Rising places.now }
     requires place { place ≤ length bytes.now }
-    ensures { IfOk result (λ handlers. handlers ≡ sections_in places.now count bytes.now (length bytes.now) place) }
+    ensures { IfOk result (λ handlers. handlers
+        ≡ sections_in places.now.starts places.now.count bytes.now (length bytes.now) place) }
 {
     let mut handlers = List::new(alloc);
     let mut place = place;
@@ -28,14 +28,14 @@ pub(crate) fn read_sections(
         let Some(section) = read_section(bytes, start) else {
             return Ok(None);
         };
-        let Some(more) = read_clauses(handlers, places, count, bytes, section, start + 4)? else {
+        let Some(more) = read_clauses(handlers, places, bytes, section, start + SECT_LEN)? else {
             return Ok(None);
         };
         if !section.further {
             return Ok(Some(more));
         }
         handlers = more;
-        place = start + 4 + section.count as usize * clause_len(section.fat);
+        place = start + SECT_LEN + section.count as usize * clause_len(section.fat);
     }
     Ok(None)
 }

@@ -1,4 +1,5 @@
-//! Headers of bodies (ECMA-335 II.25.4.2 and II.25.4.3). The tiny one is a byte: 2 in its low two bits, the code's size above.
+//! Headers of bodies (ECMA-335 II.25.4.2 and II.25.4.3). The tiny one is a byte: 2 in its low two bits, the code's size
+//! above.
 //!
 //! | offset | size | fat header |
 //! |---|---|---|
@@ -10,11 +11,15 @@
 ghost use Rattle.std.specs.Prelude.{◌≡◌};
 ghost use Rattle.il_code.specs.Sections.{header_at, fat_at, tiny};
 
-use crate::numbers::{token, u8_at, u16_at, u32_at};
+use crate::fields::{u8_at, u16_at, u32_at};
+use crate::format::{
+    CODE_SIZE, FAT_FORMAT, FAT_LEN, FAT_WORDS, FLAGS, INIT_LOCALS, LOCALS, MAX_STACK, MORE_SECTS,
+    TINY_FORMAT, TINY_STACK, WORDS,
+};
 use cil_base::Token;
 
 /// What a header says.
-#[derive(Clone, Copy, Debug, PartialEq, Eq)]
+#[derive(Clone, Copy)]
 pub struct Header {
     /// Where the code begins, in bytes from the header's first.
     pub start: u32,
@@ -33,9 +38,9 @@ pub(crate) fn read_header(bytes: &[u8]) -> Option<Header>
     ensures { result ≡ header_at bytes.now }
 {
     let first = u8_at(bytes, 0)?;
-    if first % 4 == 2 {
+    if first % 4 == TINY_FORMAT {
         Some(read_tiny(first))
-    } else if first % 4 == 3 {
+    } else if first % 4 == FAT_FORMAT {
         read_fat(bytes)
     } else {
         None
@@ -50,7 +55,7 @@ fn read_tiny(first: u8) -> Header
     Header {
         start: 1,
         size: (first / 4) as u32,
-        max_stack: 8,
+        max_stack: TINY_STACK,
         init_locals: false,
         locals: Token::ROOT,
         sections: false,
@@ -62,18 +67,18 @@ fn read_tiny(first: u8) -> Header
 fn read_fat(bytes: &[u8]) -> Option<Header>
     ensures { result ≡ fat_at bytes.now }
 {
-    let flags = u16_at(bytes, 0)?;
-    let max_stack = u16_at(bytes, 2)?;
-    let size = u32_at(bytes, 4)?;
-    let locals = u32_at(bytes, 8)?;
-    if flags / 0x1000 == 3 {
+    let flags = u16_at(bytes, FLAGS)?;
+    let max_stack = u16_at(bytes, MAX_STACK)?;
+    let size = u32_at(bytes, CODE_SIZE)?;
+    let locals = u32_at(bytes, LOCALS)?;
+    if flags / WORDS == FAT_WORDS {
         Some(Header {
-            start: 12,
+            start: FAT_LEN,
             size,
             max_stack,
-            init_locals: flags / 0x10 % 2 == 1,
-            locals: token(locals),
-            sections: flags / 8 % 2 == 1,
+            init_locals: flags / INIT_LOCALS % 2 == 1,
+            locals: Token::from_number(locals),
+            sections: flags / MORE_SECTS % 2 == 1,
         })
     } else {
         None

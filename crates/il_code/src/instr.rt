@@ -1,5 +1,5 @@
 ghost use Rattle.std.specs.Prelude.{◌≡◌, ◌+◌, ◌<◌, ◌^◌, IfOk};
-ghost use Rattle.il_code.specs.Code.{size_of, width_of, target_count};
+ghost use Rattle.il_code.specs.Code.{size_of, operand_width, target_count};
 
 use crate::kind::OperandKind;
 use crate::op::operand_kind;
@@ -7,7 +7,7 @@ use crate::operand::Operand;
 use cil_base::{List, NoMemory};
 
 /// An instruction: its code, which is 0xFE00 + the second byte where it has two, and what follows it.
-#[derive(Debug, Drop, PartialEq, Eq)]
+#[derive(Drop, PartialEq, Eq)]
 pub struct Instr {
     pub op: u16,
     pub operand: Operand,
@@ -52,7 +52,7 @@ pub(crate) fn size(instr: &Instr) -> u128
 
 /// How many bytes an operand of a kind takes.
 fn width(kind: OperandKind, operand: &Operand) -> u128
-    ensures value { result ≡ width_of kind operand.now }
+    ensures value { result ≡ operand_width kind operand.now }
     ensures bound { result < 2 ^ 66 + 8 }
 {
     match kind {

@@ -1,5 +1,5 @@
 /// What follows an instruction's code (ECMA-335 III.1.9 and VI.C.2).
-#[derive(Clone, Copy, Debug, PartialEq, Eq)]
+#[derive(Clone, Copy, PartialEq, Eq)]
 pub enum OperandKind {
     /// Nothing.
     NoOperand,

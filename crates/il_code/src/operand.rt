@@ -2,8 +2,9 @@ ghost use Rattle.std.specs.Prelude.{◌≡◌, IfOk};
 
 use cil_base::{List, NoMemory, Token};
 
-/// What stands after an instruction's code. Targets are the numbers of instructions, counted from 0 (ECMA-335 III.1.7.2).
-#[derive(Debug, Drop, PartialEq, Eq)]
+/// What stands after an instruction's code. Targets are the numbers of instructions, counted from 0 (ECMA-335
+/// III.1.7.2).
+#[derive(Drop, PartialEq, Eq)]
 pub enum Operand {
     None,
     U8(u8),

@@ -1,7 +1,7 @@
 ghost use Rattle.std.specs.Prelude.{◌≡◌, ◌++◌, ◌*◌, ◌+◌, ◌≤◌, ◌^◌, OnOk};
 ghost use Rattle.byteorder.specs.Endian.{little_bytes};
-ghost use Rattle.il_code.specs.Layout.{token_number as number_of_token};
-ghost use Rattle.il_code.specs.Ranges.{TokenFits};
+ghost use Rattle.cil_base.specs.Token.{token_number as number_of_token};
+ghost use Rattle.il_code.specs.inner.Ranges.{TokenFits};
 
 use cil_base::{Bytes, NoMemory, Token};
 
@@ -19,5 +19,5 @@ pub(crate) fn token_number(token: Token) -> u32
     ensures value { result ≡ number_of_token token }
     ensures fits { TokenFits token }
 {
-    token.table as u32 * 0x100_0000 + token.rid
+    token.number()
 }

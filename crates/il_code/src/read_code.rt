@@ -1,16 +1,14 @@
-ghost use Rattle.std.specs.Prelude.{◌≡◌, ◌<◌, ◌≤◌, ◌^◌, length, List, Some, IfOk, IfSome};
-ghost use Rattle.il_code.specs.Code.{instr_at, code_at, Stand};
-ghost use Rattle.il_code.specs.declared.instr.Instr.{Instr as Instruction};
+ghost use Rattle.std.specs.Prelude.{◌≡◌, ◌<◌, ◌≤◌, ◌^◌, length, IfOk, IfSome};
+ghost use Rattle.il_code.specs.Code.{code_at, instr_at};
+ghost use Rattle.il_code.specs.Decoded.{code_in};
 
+use crate::fields::u8_at;
 use crate::instr::{Instr, size};
-use crate::numbers::u8_at;
 use crate::op::operand_kind;
 use crate::read_operand::read_operand;
+use crate::table::{PREFIX, TWO_BYTES};
 use cil_base::{List, NoMemory};
 use std::alloc::Global;
-
-/// The first byte of the codes of two bytes.
-const TWO_BYTES: u8 = 0xfe;
 
 /// The code at a place.
 #[tactic(auto, unfolding(crate::specs::Code::code_at))]
@@ -19,9 +17,9 @@ fn read_op(code: &[u8], place: usize) -> Option<u16>
     ensures { result ≡ code_at code.now place }
 {
     let first = u8_at(code, place)?;
-    if first == TWO_BYTES {
+    if first == PREFIX {
         let second = u8_at(code, place + 1)?;
-        Some(0xfe00 + second as u16)
+        Some(TWO_BYTES + second as u16)
     } else {
         Some(first as u16)
     }
@@ -52,16 +50,16 @@ fn read_instr(
     }
 }
 
-/// The instructions of the code, one after the other. Their targets are places. None where the code is not made of such.
+/// The instructions of the code, one after the other. Their targets are places. None where the code is not made of
+/// such.
 pub(crate) fn read_code(
     alloc: Global,
     code: &[u8],
     users: &[u8],
 ) -> Result<Option<List<Instr>>, NoMemory>
     requires { length code.now < 2 ^ 32 }
-    ensures found { IfOk result (λ all. IfSome all (λ xs. Stand users.now code.now 0 xs)) }
+    ensures value { IfOk result (λ all. all ≡ code_in users.now code.now) }
     ensures few { IfOk result (λ all. IfSome all (λ xs. length xs ≤ length code.now)) }
-    ensures only { IfOk result (λ all. (xs : List Instruction) → Stand users.now code.now 0 xs → all ≡ Some xs) }
 {
     let mut all = List::new(alloc);
     let mut place = 0;

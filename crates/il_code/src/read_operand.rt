@@ -1,12 +1,13 @@
 ghost use Rattle.std.specs.Prelude.{◌≡◌, ◌++◌, ◌+◌, ◌*◌, ◌-◌, ◌<◌, ◌≤◌, ◌^◌, length, IfOk};
 ghost use Rattle.il_code.specs.Code.{operand_at, switch_target_at};
-ghost use Rattle.il_code.specs.Numbers.{items_at};
+ghost use Rattle.il_code.specs.Items.{items_at};
 
+use crate::branch::{long_target, short_target};
+use crate::fields::{u8_at, u16_at, u32_at, u64_at};
 use crate::kind::OperandKind;
-use crate::numbers::{long_target, short_target, token, u8_at, u16_at, u32_at, u64_at};
 use crate::operand::Operand;
 use crate::texts::text_at;
-use cil_base::{List, NoMemory};
+use cil_base::{List, NoMemory, Token};
 use std::alloc::Global;
 
 /// The operand that stands at a place of the code's bytes. Its targets are places in the code.
@@ -47,7 +48,7 @@ fn read_fixed(code: &[u8], users: &[u8], place: usize, kind: OperandKind) -> Opt
         OperandKind::I64 => Some(Operand::I64(u64_at(code, place)?.cast_signed())),
         OperandKind::R4 => Some(Operand::R4(u32_at(code, place)?)),
         OperandKind::R8 => Some(Operand::R8(u64_at(code, place)?)),
-        OperandKind::Token => Some(Operand::Tok(token(u32_at(code, place)?))),
+        OperandKind::Token => Some(Operand::Tok(Token::from_number(u32_at(code, place)?))),
         OperandKind::ShortBranch => read_short(code, users, place),
         OperandKind::Branch => read_long(code, users, place),
     }
@@ -126,7 +127,8 @@ fn read_targets(
 ) -> Result<Option<List<u32>>, NoMemory>
     requires size { length code.now < 2 ^ 32 }
     requires place { place < 2 ^ 34 }
-    ensures { IfOk result (λ targets. targets ≡ items_at (switch_target_at code.now (place + 4 * count)) 4 place count) }
+    ensures { IfOk result (λ targets. targets
+        ≡ items_at (switch_target_at code.now (place + 4 * count)) 4 place count) }
 {
     let after = place + 4 * count as usize;
     let mut targets = List::new(alloc);

@@ -1,13 +1,14 @@
-//! Headers of the sections behind the code (ECMA-335 II.25.4.5): a byte of kind and flags, and the section's size in one byte, or
-//! in three where the section is fat.
+//! Headers of the sections behind the code (ECMA-335 II.25.4.5): a byte of kind and flags, and the section's size in
+//! one byte, or in three where the section is fat.
 
 ghost use Rattle.std.specs.Prelude.{◌≡◌, ◌+◌, ◌<◌, ◌≤◌, ◌^◌, IfSome, length};
-ghost use Rattle.il_code.specs.Sections.{aligned, clause_size, section_at};
+ghost use Rattle.il_code.specs.Sections.{aligned, clause_size, data_section_at};
 
-use crate::numbers::u32_at;
+use crate::fields::u32_at;
+use crate::format::{FAT_CLAUSE, SECT_EH_TABLE, SECT_FAT_FORMAT, SECT_MORE_SECTS, SMALL_CLAUSE};
 
 /// What a section's header says.
-#[derive(Clone, Copy, Debug, PartialEq, Eq)]
+#[derive(Clone, Copy)]
 pub struct Section {
     /// Whether its clauses have 24 bytes each, and not 12.
     pub fat: bool,
@@ -21,7 +22,7 @@ pub struct Section {
 pub(crate) fn clause_len(fat: bool) -> usize
     ensures { result ≡ clause_size fat }
 {
-    if fat { 24 } else { 12 }
+    if fat { FAT_CLAUSE } else { SMALL_CLAUSE }
 }
 
 /// The next multiple of four.
@@ -34,24 +35,24 @@ pub(crate) fn align(place: usize) -> usize
 }
 
 /// The section whose header stands at a place.
-#[tactic(auto, unfolding(crate::specs::Sections::section_at))]
+#[tactic(auto, unfolding(crate::specs::Sections::data_section_at))]
 pub(crate) fn read_section(bytes: &[u8], place: usize) -> Option<Section>
-    ensures value { result ≡ section_at bytes.now place }
+    ensures value { result ≡ data_section_at bytes.now place }
     ensures small { IfSome result (λ section. section.count < 2 ^ 24) }
     ensures within { IfSome result (λ section. place + 4 ≤ length bytes.now) }
 {
     let number = u32_at(bytes, place)?;
     let kind = number % 0x100;
-    let fat = kind / 0x40 % 2 == 1;
+    let fat = kind / SECT_FAT_FORMAT % 2 == 1;
     let size = if fat {
         number / 0x100
     } else {
         number / 0x100 % 0x100
     };
-    if kind % 0x40 == 1 {
+    if kind % SECT_FAT_FORMAT == SECT_EH_TABLE {
         Some(Section {
             fat,
-            further: kind / 0x80 == 1,
+            further: kind / SECT_MORE_SECTS == 1,
             count: size / clause_len(fat) as u32,
         })
     } else {

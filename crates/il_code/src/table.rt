@@ -1,299 +1,356 @@
-//! The table of the instructions (ECMA-335 III and VI.C.2): what follows each code, in the order of the codes.
-//! It is data, stated once.
+//! The instructions (ECMA-335 III and VI.C.2): each with its code, its name in assembly text and what follows its code.
+//! It is data, stated once. The instructions of one byte stand at the places 00 to FF, those of two bytes from 100 on
+//! by the second.
+
+ghost use Rattle.std.specs.Prelude.{◌≡◌, None as no_row, get_or, map, option_map};
+ghost use Rattle.il_code.specs.Instructions.{instruction};
+ghost use Rattle.il_code.specs.inner.Table.{row_seen, table_rows};
 
 use crate::kind::OperandKind;
 
-/// What follows the instructions of one byte, by that byte.
-pub(crate) static ONE_BYTE: [Option<OperandKind>; 256] = [
-    Some(OperandKind::NoOperand), // nop
-    Some(OperandKind::NoOperand), // break
-    Some(OperandKind::NoOperand), // ldarg.0
-    Some(OperandKind::NoOperand), // ldarg.1
-    Some(OperandKind::NoOperand), // ldarg.2
-    Some(OperandKind::NoOperand), // ldarg.3
-    Some(OperandKind::NoOperand), // ldloc.0
-    Some(OperandKind::NoOperand), // ldloc.1
-    Some(OperandKind::NoOperand), // ldloc.2
-    Some(OperandKind::NoOperand), // ldloc.3
-    Some(OperandKind::NoOperand), // stloc.0
-    Some(OperandKind::NoOperand), // stloc.1
-    Some(OperandKind::NoOperand), // stloc.2
-    Some(OperandKind::NoOperand), // stloc.3
-    Some(OperandKind::U8), // ldarg.s
-    Some(OperandKind::U8), // ldarga.s
-    Some(OperandKind::U8), // starg.s
-    Some(OperandKind::U8), // ldloc.s
-    Some(OperandKind::U8), // ldloca.s
-    Some(OperandKind::U8), // stloc.s
-    Some(OperandKind::NoOperand), // ldnull
-    Some(OperandKind::NoOperand), // ldc.i4.m1
-    Some(OperandKind::NoOperand), // ldc.i4.0
-    Some(OperandKind::NoOperand), // ldc.i4.1
-    Some(OperandKind::NoOperand), // ldc.i4.2
-    Some(OperandKind::NoOperand), // ldc.i4.3
-    Some(OperandKind::NoOperand), // ldc.i4.4
-    Some(OperandKind::NoOperand), // ldc.i4.5
-    Some(OperandKind::NoOperand), // ldc.i4.6
-    Some(OperandKind::NoOperand), // ldc.i4.7
-    Some(OperandKind::NoOperand), // ldc.i4.8
-    Some(OperandKind::I8), // ldc.i4.s
-    Some(OperandKind::I32), // ldc.i4
-    Some(OperandKind::I64), // ldc.i8
-    Some(OperandKind::R4), // ldc.r4
-    Some(OperandKind::R8), // ldc.r8
-    None,
-    Some(OperandKind::NoOperand), // dup
-    Some(OperandKind::NoOperand), // pop
-    Some(OperandKind::Token), // jmp
-    Some(OperandKind::Token), // call
-    Some(OperandKind::Token), // calli
-    Some(OperandKind::NoOperand), // ret
-    Some(OperandKind::ShortBranch), // br.s
-    Some(OperandKind::ShortBranch), // brfalse.s
-    Some(OperandKind::ShortBranch), // brtrue.s
-    Some(OperandKind::ShortBranch), // beq.s
-    Some(OperandKind::ShortBranch), // bge.s
-    Some(OperandKind::ShortBranch), // bgt.s
-    Some(OperandKind::ShortBranch), // ble.s
-    Some(OperandKind::ShortBranch), // blt.s
-    Some(OperandKind::ShortBranch), // bne.un.s
-    Some(OperandKind::ShortBranch), // bge.un.s
-    Some(OperandKind::ShortBranch), // bgt.un.s
-    Some(OperandKind::ShortBranch), // ble.un.s
-    Some(OperandKind::ShortBranch), // blt.un.s
-    Some(OperandKind::Branch), // br
-    Some(OperandKind::Branch), // brfalse
-    Some(OperandKind::Branch), // brtrue
-    Some(OperandKind::Branch), // beq
-    Some(OperandKind::Branch), // bge
-    Some(OperandKind::Branch), // bgt
-    Some(OperandKind::Branch), // ble
-    Some(OperandKind::Branch), // blt
-    Some(OperandKind::Branch), // bne.un
-    Some(OperandKind::Branch), // bge.un
-    Some(OperandKind::Branch), // bgt.un
-    Some(OperandKind::Branch), // ble.un
-    Some(OperandKind::Branch), // blt.un
-    Some(OperandKind::Switch), // switch
-    Some(OperandKind::NoOperand), // ldind.i1
-    Some(OperandKind::NoOperand), // ldind.u1
-    Some(OperandKind::NoOperand), // ldind.i2
-    Some(OperandKind::NoOperand), // ldind.u2
-    Some(OperandKind::NoOperand), // ldind.i4
-    Some(OperandKind::NoOperand), // ldind.u4
-    Some(OperandKind::NoOperand), // ldind.i8
-    Some(OperandKind::NoOperand), // ldind.i
-    Some(OperandKind::NoOperand), // ldind.r4
-    Some(OperandKind::NoOperand), // ldind.r8
-    Some(OperandKind::NoOperand), // ldind.ref
-    Some(OperandKind::NoOperand), // stind.ref
-    Some(OperandKind::NoOperand), // stind.i1
-    Some(OperandKind::NoOperand), // stind.i2
-    Some(OperandKind::NoOperand), // stind.i4
-    Some(OperandKind::NoOperand), // stind.i8
-    Some(OperandKind::NoOperand), // stind.r4
-    Some(OperandKind::NoOperand), // stind.r8
-    Some(OperandKind::NoOperand), // add
-    Some(OperandKind::NoOperand), // sub
-    Some(OperandKind::NoOperand), // mul
-    Some(OperandKind::NoOperand), // div
-    Some(OperandKind::NoOperand), // div.un
-    Some(OperandKind::NoOperand), // rem
-    Some(OperandKind::NoOperand), // rem.un
-    Some(OperandKind::NoOperand), // and
-    Some(OperandKind::NoOperand), // or
-    Some(OperandKind::NoOperand), // xor
-    Some(OperandKind::NoOperand), // shl
-    Some(OperandKind::NoOperand), // shr
-    Some(OperandKind::NoOperand), // shr.un
-    Some(OperandKind::NoOperand), // neg
-    Some(OperandKind::NoOperand), // not
-    Some(OperandKind::NoOperand), // conv.i1
-    Some(OperandKind::NoOperand), // conv.i2
-    Some(OperandKind::NoOperand), // conv.i4
-    Some(OperandKind::NoOperand), // conv.i8
-    Some(OperandKind::NoOperand), // conv.r4
-    Some(OperandKind::NoOperand), // conv.r8
-    Some(OperandKind::NoOperand), // conv.u4
-    Some(OperandKind::NoOperand), // conv.u8
-    Some(OperandKind::Token), // callvirt
-    Some(OperandKind::Token), // cpobj
-    Some(OperandKind::Token), // ldobj
-    Some(OperandKind::Text), // ldstr
-    Some(OperandKind::Token), // newobj
-    Some(OperandKind::Token), // castclass
-    Some(OperandKind::Token), // isinst
-    Some(OperandKind::NoOperand), // conv.r.un
-    None,
-    None,
-    Some(OperandKind::Token), // unbox
-    Some(OperandKind::NoOperand), // throw
-    Some(OperandKind::Token), // ldfld
-    Some(OperandKind::Token), // ldflda
-    Some(OperandKind::Token), // stfld
-    Some(OperandKind::Token), // ldsfld
-    Some(OperandKind::Token), // ldsflda
-    Some(OperandKind::Token), // stsfld
-    Some(OperandKind::Token), // stobj
-    Some(OperandKind::NoOperand), // conv.ovf.i1.un
-    Some(OperandKind::NoOperand), // conv.ovf.i2.un
-    Some(OperandKind::NoOperand), // conv.ovf.i4.un
-    Some(OperandKind::NoOperand), // conv.ovf.i8.un
-    Some(OperandKind::NoOperand), // conv.ovf.u1.un
-    Some(OperandKind::NoOperand), // conv.ovf.u2.un
-    Some(OperandKind::NoOperand), // conv.ovf.u4.un
-    Some(OperandKind::NoOperand), // conv.ovf.u8.un
-    Some(OperandKind::NoOperand), // conv.ovf.i.un
-    Some(OperandKind::NoOperand), // conv.ovf.u.un
-    Some(OperandKind::Token), // box
-    Some(OperandKind::Token), // newarr
-    Some(OperandKind::NoOperand), // ldlen
-    Some(OperandKind::Token), // ldelema
-    Some(OperandKind::NoOperand), // ldelem.i1
-    Some(OperandKind::NoOperand), // ldelem.u1
-    Some(OperandKind::NoOperand), // ldelem.i2
-    Some(OperandKind::NoOperand), // ldelem.u2
-    Some(OperandKind::NoOperand), // ldelem.i4
-    Some(OperandKind::NoOperand), // ldelem.u4
-    Some(OperandKind::NoOperand), // ldelem.i8
-    Some(OperandKind::NoOperand), // ldelem.i
-    Some(OperandKind::NoOperand), // ldelem.r4
-    Some(OperandKind::NoOperand), // ldelem.r8
-    Some(OperandKind::NoOperand), // ldelem.ref
-    Some(OperandKind::NoOperand), // stelem.i
-    Some(OperandKind::NoOperand), // stelem.i1
-    Some(OperandKind::NoOperand), // stelem.i2
-    Some(OperandKind::NoOperand), // stelem.i4
-    Some(OperandKind::NoOperand), // stelem.i8
-    Some(OperandKind::NoOperand), // stelem.r4
-    Some(OperandKind::NoOperand), // stelem.r8
-    Some(OperandKind::NoOperand), // stelem.ref
-    Some(OperandKind::Token), // ldelem
-    Some(OperandKind::Token), // stelem
-    Some(OperandKind::Token), // unbox.any
-    None,
-    None,
-    None,
-    None,
-    None,
-    None,
-    None,
-    None,
-    None,
-    None,
-    None,
-    None,
-    None,
-    Some(OperandKind::NoOperand), // conv.ovf.i1
-    Some(OperandKind::NoOperand), // conv.ovf.u1
-    Some(OperandKind::NoOperand), // conv.ovf.i2
-    Some(OperandKind::NoOperand), // conv.ovf.u2
-    Some(OperandKind::NoOperand), // conv.ovf.i4
-    Some(OperandKind::NoOperand), // conv.ovf.u4
-    Some(OperandKind::NoOperand), // conv.ovf.i8
-    Some(OperandKind::NoOperand), // conv.ovf.u8
-    None,
-    None,
-    None,
-    None,
-    None,
-    None,
-    None,
-    Some(OperandKind::Token), // refanyval
-    Some(OperandKind::NoOperand), // ckfinite
-    None,
-    None,
-    Some(OperandKind::Token), // mkrefany
-    None,
-    None,
-    None,
-    None,
-    None,
-    None,
-    None,
-    None,
-    None,
-    Some(OperandKind::Token), // ldtoken
-    Some(OperandKind::NoOperand), // conv.u2
-    Some(OperandKind::NoOperand), // conv.u1
-    Some(OperandKind::NoOperand), // conv.i
-    Some(OperandKind::NoOperand), // conv.ovf.i
-    Some(OperandKind::NoOperand), // conv.ovf.u
-    Some(OperandKind::NoOperand), // add.ovf
-    Some(OperandKind::NoOperand), // add.ovf.un
-    Some(OperandKind::NoOperand), // mul.ovf
-    Some(OperandKind::NoOperand), // mul.ovf.un
-    Some(OperandKind::NoOperand), // sub.ovf
-    Some(OperandKind::NoOperand), // sub.ovf.un
-    Some(OperandKind::NoOperand), // endfinally
-    Some(OperandKind::Branch), // leave
-    Some(OperandKind::ShortBranch), // leave.s
-    Some(OperandKind::NoOperand), // stind.i
-    Some(OperandKind::NoOperand), // conv.u
-    None,
-    None,
-    None,
-    None,
-    None,
-    None,
-    None,
-    None,
-    None,
-    None,
-    None,
-    None,
-    None,
-    None,
-    None,
-    None,
-    None,
-    None,
-    None,
-    None,
-    None,
-    None,
-    None,
-    None,
-    None,
-    None,
-    None,
-    None,
-    None,
-    None,
-    None,
-];
+/// An instruction.
+#[derive(Clone, Copy)]
+pub(crate) struct InstrRow {
+    pub code: u16,
+    pub name: &'static str,
+    pub kind: OperandKind,
+}
 
-/// What follows the instructions of two bytes, by the byte after FE.
-pub(crate) static TWO_BYTE: [Option<OperandKind>; 31] = [
-    Some(OperandKind::NoOperand), // arglist
-    Some(OperandKind::NoOperand), // ceq
-    Some(OperandKind::NoOperand), // cgt
-    Some(OperandKind::NoOperand), // cgt.un
-    Some(OperandKind::NoOperand), // clt
-    Some(OperandKind::NoOperand), // clt.un
-    Some(OperandKind::Token), // ldftn
-    Some(OperandKind::Token), // ldvirtftn
+/// The first byte of the codes of two bytes.
+pub(crate) const PREFIX: u8 = 0xfe;
+
+/// The first of those codes.
+pub(crate) const TWO_BYTES: u16 = 0xfe00;
+
+/// A row of the table.
+macro_rules! row {
+    ($code:literal, $name:literal, $kind:ident) => {
+        Some(InstrRow {
+            code: $code,
+            name: $name,
+            kind: OperandKind::$kind,
+        })
+    };
+}
+
+/// The instructions by their places.
+fn rows() -> &'static [Option<InstrRow>]
+    ensures { map (option_map row_seen) result.now ≡ table_rows }
+{
+    &ROWS
+}
+
+/// The row of a code, which is 0xFE00 + its second byte where it has two.
+pub(crate) fn row_of(code: u16) -> Option<InstrRow>
+    ensures { option_map row_seen result ≡ instruction code }
+{
+    if code < 0x100 {
+        row_at(rows(), code as usize)
+    } else if code < TWO_BYTES {
+        None
+    } else {
+        row_at(rows(), 0x100 + (code - TWO_BYTES) as usize)
+    }
+}
+
+/// The row at a place, or none past the end.
+fn row_at(rows: &[Option<InstrRow>], place: usize) -> Option<InstrRow>
+    ensures { result ≡ get_or rows.now place no_row }
+{
+    if place < rows.len() {
+        rows[place]
+    } else {
+        None
+    }
+}
+
+/// The rows: the instructions of one byte, and those of two.
+static ROWS: [Option<InstrRow>; 287] = [
+    row!(0x00, "nop", NoOperand),
+    row!(0x01, "break", NoOperand),
+    row!(0x02, "ldarg.0", NoOperand),
+    row!(0x03, "ldarg.1", NoOperand),
+    row!(0x04, "ldarg.2", NoOperand),
+    row!(0x05, "ldarg.3", NoOperand),
+    row!(0x06, "ldloc.0", NoOperand),
+    row!(0x07, "ldloc.1", NoOperand),
+    row!(0x08, "ldloc.2", NoOperand),
+    row!(0x09, "ldloc.3", NoOperand),
+    row!(0x0A, "stloc.0", NoOperand),
+    row!(0x0B, "stloc.1", NoOperand),
+    row!(0x0C, "stloc.2", NoOperand),
+    row!(0x0D, "stloc.3", NoOperand),
+    row!(0x0E, "ldarg.s", U8),
+    row!(0x0F, "ldarga.s", U8),
+    row!(0x10, "starg.s", U8),
+    row!(0x11, "ldloc.s", U8),
+    row!(0x12, "ldloca.s", U8),
+    row!(0x13, "stloc.s", U8),
+    row!(0x14, "ldnull", NoOperand),
+    row!(0x15, "ldc.i4.m1", NoOperand),
+    row!(0x16, "ldc.i4.0", NoOperand),
+    row!(0x17, "ldc.i4.1", NoOperand),
+    row!(0x18, "ldc.i4.2", NoOperand),
+    row!(0x19, "ldc.i4.3", NoOperand),
+    row!(0x1A, "ldc.i4.4", NoOperand),
+    row!(0x1B, "ldc.i4.5", NoOperand),
+    row!(0x1C, "ldc.i4.6", NoOperand),
+    row!(0x1D, "ldc.i4.7", NoOperand),
+    row!(0x1E, "ldc.i4.8", NoOperand),
+    row!(0x1F, "ldc.i4.s", I8),
+    row!(0x20, "ldc.i4", I32),
+    row!(0x21, "ldc.i8", I64),
+    row!(0x22, "ldc.r4", R4),
+    row!(0x23, "ldc.r8", R8),
     None,
-    Some(OperandKind::U16), // ldarg
-    Some(OperandKind::U16), // ldarga
-    Some(OperandKind::U16), // starg
-    Some(OperandKind::U16), // ldloc
-    Some(OperandKind::U16), // ldloca
-    Some(OperandKind::U16), // stloc
-    Some(OperandKind::NoOperand), // localloc
+    row!(0x25, "dup", NoOperand),
+    row!(0x26, "pop", NoOperand),
+    row!(0x27, "jmp", Token),
+    row!(0x28, "call", Token),
+    row!(0x29, "calli", Token),
+    row!(0x2A, "ret", NoOperand),
+    row!(0x2B, "br.s", ShortBranch),
+    row!(0x2C, "brfalse.s", ShortBranch),
+    row!(0x2D, "brtrue.s", ShortBranch),
+    row!(0x2E, "beq.s", ShortBranch),
+    row!(0x2F, "bge.s", ShortBranch),
+    row!(0x30, "bgt.s", ShortBranch),
+    row!(0x31, "ble.s", ShortBranch),
+    row!(0x32, "blt.s", ShortBranch),
+    row!(0x33, "bne.un.s", ShortBranch),
+    row!(0x34, "bge.un.s", ShortBranch),
+    row!(0x35, "bgt.un.s", ShortBranch),
+    row!(0x36, "ble.un.s", ShortBranch),
+    row!(0x37, "blt.un.s", ShortBranch),
+    row!(0x38, "br", Branch),
+    row!(0x39, "brfalse", Branch),
+    row!(0x3A, "brtrue", Branch),
+    row!(0x3B, "beq", Branch),
+    row!(0x3C, "bge", Branch),
+    row!(0x3D, "bgt", Branch),
+    row!(0x3E, "ble", Branch),
+    row!(0x3F, "blt", Branch),
+    row!(0x40, "bne.un", Branch),
+    row!(0x41, "bge.un", Branch),
+    row!(0x42, "bgt.un", Branch),
+    row!(0x43, "ble.un", Branch),
+    row!(0x44, "blt.un", Branch),
+    row!(0x45, "switch", Switch),
+    row!(0x46, "ldind.i1", NoOperand),
+    row!(0x47, "ldind.u1", NoOperand),
+    row!(0x48, "ldind.i2", NoOperand),
+    row!(0x49, "ldind.u2", NoOperand),
+    row!(0x4A, "ldind.i4", NoOperand),
+    row!(0x4B, "ldind.u4", NoOperand),
+    row!(0x4C, "ldind.i8", NoOperand),
+    row!(0x4D, "ldind.i", NoOperand),
+    row!(0x4E, "ldind.r4", NoOperand),
+    row!(0x4F, "ldind.r8", NoOperand),
+    row!(0x50, "ldind.ref", NoOperand),
+    row!(0x51, "stind.ref", NoOperand),
+    row!(0x52, "stind.i1", NoOperand),
+    row!(0x53, "stind.i2", NoOperand),
+    row!(0x54, "stind.i4", NoOperand),
+    row!(0x55, "stind.i8", NoOperand),
+    row!(0x56, "stind.r4", NoOperand),
+    row!(0x57, "stind.r8", NoOperand),
+    row!(0x58, "add", NoOperand),
+    row!(0x59, "sub", NoOperand),
+    row!(0x5A, "mul", NoOperand),
+    row!(0x5B, "div", NoOperand),
+    row!(0x5C, "div.un", NoOperand),
+    row!(0x5D, "rem", NoOperand),
+    row!(0x5E, "rem.un", NoOperand),
+    row!(0x5F, "and", NoOperand),
+    row!(0x60, "or", NoOperand),
+    row!(0x61, "xor", NoOperand),
+    row!(0x62, "shl", NoOperand),
+    row!(0x63, "shr", NoOperand),
+    row!(0x64, "shr.un", NoOperand),
+    row!(0x65, "neg", NoOperand),
+    row!(0x66, "not", NoOperand),
+    row!(0x67, "conv.i1", NoOperand),
+    row!(0x68, "conv.i2", NoOperand),
+    row!(0x69, "conv.i4", NoOperand),
+    row!(0x6A, "conv.i8", NoOperand),
+    row!(0x6B, "conv.r4", NoOperand),
+    row!(0x6C, "conv.r8", NoOperand),
+    row!(0x6D, "conv.u4", NoOperand),
+    row!(0x6E, "conv.u8", NoOperand),
+    row!(0x6F, "callvirt", Token),
+    row!(0x70, "cpobj", Token),
+    row!(0x71, "ldobj", Token),
+    row!(0x72, "ldstr", Text),
+    row!(0x73, "newobj", Token),
+    row!(0x74, "castclass", Token),
+    row!(0x75, "isinst", Token),
+    row!(0x76, "conv.r.un", NoOperand),
     None,
-    Some(OperandKind::NoOperand), // endfilter
-    Some(OperandKind::U8), // unaligned.
-    Some(OperandKind::NoOperand), // volatile.
-    Some(OperandKind::NoOperand), // tail.
-    Some(OperandKind::Token), // initobj
-    Some(OperandKind::Token), // constrained.
-    Some(OperandKind::NoOperand), // cpblk
-    Some(OperandKind::NoOperand), // initblk
-    Some(OperandKind::U8), // no.
-    Some(OperandKind::NoOperand), // rethrow
     None,
-    Some(OperandKind::Token), // sizeof
-    Some(OperandKind::NoOperand), // refanytype
-    Some(OperandKind::NoOperand), // readonly.
+    row!(0x79, "unbox", Token),
+    row!(0x7A, "throw", NoOperand),
+    row!(0x7B, "ldfld", Token),
+    row!(0x7C, "ldflda", Token),
+    row!(0x7D, "stfld", Token),
+    row!(0x7E, "ldsfld", Token),
+    row!(0x7F, "ldsflda", Token),
+    row!(0x80, "stsfld", Token),
+    row!(0x81, "stobj", Token),
+    row!(0x82, "conv.ovf.i1.un", NoOperand),
+    row!(0x83, "conv.ovf.i2.un", NoOperand),
+    row!(0x84, "conv.ovf.i4.un", NoOperand),
+    row!(0x85, "conv.ovf.i8.un", NoOperand),
+    row!(0x86, "conv.ovf.u1.un", NoOperand),
+    row!(0x87, "conv.ovf.u2.un", NoOperand),
+    row!(0x88, "conv.ovf.u4.un", NoOperand),
+    row!(0x89, "conv.ovf.u8.un", NoOperand),
+    row!(0x8A, "conv.ovf.i.un", NoOperand),
+    row!(0x8B, "conv.ovf.u.un", NoOperand),
+    row!(0x8C, "box", Token),
+    row!(0x8D, "newarr", Token),
+    row!(0x8E, "ldlen", NoOperand),
+    row!(0x8F, "ldelema", Token),
+    row!(0x90, "ldelem.i1", NoOperand),
+    row!(0x91, "ldelem.u1", NoOperand),
+    row!(0x92, "ldelem.i2", NoOperand),
+    row!(0x93, "ldelem.u2", NoOperand),
+    row!(0x94, "ldelem.i4", NoOperand),
+    row!(0x95, "ldelem.u4", NoOperand),
+    row!(0x96, "ldelem.i8", NoOperand),
+    row!(0x97, "ldelem.i", NoOperand),
+    row!(0x98, "ldelem.r4", NoOperand),
+    row!(0x99, "ldelem.r8", NoOperand),
+    row!(0x9A, "ldelem.ref", NoOperand),
+    row!(0x9B, "stelem.i", NoOperand),
+    row!(0x9C, "stelem.i1", NoOperand),
+    row!(0x9D, "stelem.i2", NoOperand),
+    row!(0x9E, "stelem.i4", NoOperand),
+    row!(0x9F, "stelem.i8", NoOperand),
+    row!(0xA0, "stelem.r4", NoOperand),
+    row!(0xA1, "stelem.r8", NoOperand),
+    row!(0xA2, "stelem.ref", NoOperand),
+    row!(0xA3, "ldelem", Token),
+    row!(0xA4, "stelem", Token),
+    row!(0xA5, "unbox.any", Token),
+    None,
+    None,
+    None,
+    None,
+    None,
+    None,
+    None,
+    None,
+    None,
+    None,
+    None,
+    None,
+    None,
+    row!(0xB3, "conv.ovf.i1", NoOperand),
+    row!(0xB4, "conv.ovf.u1", NoOperand),
+    row!(0xB5, "conv.ovf.i2", NoOperand),
+    row!(0xB6, "conv.ovf.u2", NoOperand),
+    row!(0xB7, "conv.ovf.i4", NoOperand),
+    row!(0xB8, "conv.ovf.u4", NoOperand),
+    row!(0xB9, "conv.ovf.i8", NoOperand),
+    row!(0xBA, "conv.ovf.u8", NoOperand),
+    None,
+    None,
+    None,
+    None,
+    None,
+    None,
+    None,
+    row!(0xC2, "refanyval", Token),
+    row!(0xC3, "ckfinite", NoOperand),
+    None,
+    None,
+    row!(0xC6, "mkrefany", Token),
+    None,
+    None,
+    None,
+    None,
+    None,
+    None,
+    None,
+    None,
+    None,
+    row!(0xD0, "ldtoken", Token),
+    row!(0xD1, "conv.u2", NoOperand),
+    row!(0xD2, "conv.u1", NoOperand),
+    row!(0xD3, "conv.i", NoOperand),
+    row!(0xD4, "conv.ovf.i", NoOperand),
+    row!(0xD5, "conv.ovf.u", NoOperand),
+    row!(0xD6, "add.ovf", NoOperand),
+    row!(0xD7, "add.ovf.un", NoOperand),
+    row!(0xD8, "mul.ovf", NoOperand),
+    row!(0xD9, "mul.ovf.un", NoOperand),
+    row!(0xDA, "sub.ovf", NoOperand),
+    row!(0xDB, "sub.ovf.un", NoOperand),
+    row!(0xDC, "endfinally", NoOperand),
+    row!(0xDD, "leave", Branch),
+    row!(0xDE, "leave.s", ShortBranch),
+    row!(0xDF, "stind.i", NoOperand),
+    row!(0xE0, "conv.u", NoOperand),
+    None,
+    None,
+    None,
+    None,
+    None,
+    None,
+    None,
+    None,
+    None,
+    None,
+    None,
+    None,
+    None,
+    None,
+    None,
+    None,
+    None,
+    None,
+    None,
+    None,
+    None,
+    None,
+    None,
+    None,
+    None,
+    None,
+    None,
+    None,
+    None,
+    None,
+    None,
+    row!(0xFE00, "arglist", NoOperand),
+    row!(0xFE01, "ceq", NoOperand),
+    row!(0xFE02, "cgt", NoOperand),
+    row!(0xFE03, "cgt.un", NoOperand),
+    row!(0xFE04, "clt", NoOperand),
+    row!(0xFE05, "clt.un", NoOperand),
+    row!(0xFE06, "ldftn", Token),
+    row!(0xFE07, "ldvirtftn", Token),
+    None,
+    row!(0xFE09, "ldarg", U16),
+    row!(0xFE0A, "ldarga", U16),
+    row!(0xFE0B, "starg", U16),
+    row!(0xFE0C, "ldloc", U16),
+    row!(0xFE0D, "ldloca", U16),
+    row!(0xFE0E, "stloc", U16),
+    row!(0xFE0F, "localloc", NoOperand),
+    None,
+    row!(0xFE11, "endfilter", NoOperand),
+    row!(0xFE12, "unaligned.", U8),
+    row!(0xFE13, "volatile.", NoOperand),
+    row!(0xFE14, "tail.", NoOperand),
+    row!(0xFE15, "initobj", Token),
+    row!(0xFE16, "constrained.", Token),
+    row!(0xFE17, "cpblk", NoOperand),
+    row!(0xFE18, "initblk", NoOperand),
+    row!(0xFE19, "no.", U8),
+    row!(0xFE1A, "rethrow", NoOperand),
+    None,
+    row!(0xFE1C, "sizeof", Token),
+    row!(0xFE1D, "refanytype", NoOperand),
+    row!(0xFE1E, "readonly.", NoOperand),
 ];

@@ -1,22 +1,21 @@
 ghost use Rattle.std.specs.Prelude.{◌≡◌, ◌+◌, ◌*◌, ◌≤◌, IfOk, length};
-ghost use Rattle.byteorder.specs.Endian.{little_from};
-ghost use Rattle.il_code.specs.Code.{text_of, utf16};
+ghost use Rattle.cil_base.specs.Place.{number_at};
+ghost use Rattle.il_code.specs.Code.{user_text, utf16};
 
-use byteorder::{ByteOrder, LittleEndian};
-use cil_base::{List, NoMemory, units_at};
+use cil_base::{List, NoMemory, number_at, units_at};
 use std::alloc::Global;
 
 /// The number of the heap #US among the tables of tokens (ECMA-335 III.1.9).
 const USER_STRINGS: u32 = 0x70;
 
 /// The text of a user string's token. None where the token's table is another, or the heap has no entry there.
-#[tactic(auto, unfolding(crate::specs::Code::text_of))]
+#[tactic(auto, unfolding(crate::specs::Code::user_text))]
 pub(crate) fn text_at(
     alloc: Global,
     users: &[u8],
     token: u32,
 ) -> Result<Option<List<u16>>, NoMemory>
-    ensures { IfOk result (λ text. text ≡ text_of users.now token) }
+    ensures { IfOk result (λ text. text ≡ user_text users.now token) }
 {
     if token / 0x100_0000 != USER_STRINGS {
         return Ok(None);
@@ -43,7 +42,7 @@ fn utf16_units(alloc: Global, bytes: &[u8]) -> Result<List<u16>, NoMemory>
 /// The unit at an index.
 fn unit_at(bytes: &[u8], index: usize) -> u16
     requires { 2 * index + 2 ≤ length bytes.now }
-    ensures { result ≡ little_from (2 * index) 2 bytes.now }
+    ensures { result ≡ number_at bytes.now (2 * index) 2 }
 {
-    LittleEndian::read_u16(&bytes[2 * index..])
+    number_at(bytes, 2 * index, 2) as u16
 }

@@ -3,7 +3,8 @@
 ghost use Rattle.std.specs.Prelude.{◌≡◌, ◌<◌, ◌≤◌, ◌↔◌, Some as some, IsTrue, length};
 ghost use Rattle.std.specs.List.{AllByRecursion};
 ghost use Rattle.il_code.specs.Code.{TargetsBelow};
-ghost use Rattle.il_code.specs.Kinds.{kind_of};
+ghost use Rattle.il_code.specs.Instructions.{kind_of};
+ghost use Rattle.il_code.specs.Sound.{fits_kind};
 ghost use Rattle.il_code.specs.Spelling.{FilterBelow};
 ghost use Rattle.il_code.specs.Writable.{IsOfKind, IsSound, IsSoundHandler, Writable, operand_texts, texts_of};
 
@@ -45,9 +46,11 @@ fn is_of(kind: OperandKind, operand: &Operand) -> bool
     }
 }
 
-/// Whether an operand is one of a code's kind.
-fn is_of_kind(op: u16, operand: &Operand) -> bool
-    ensures { IsTrue result ↔ IsOfKind (kind_of op) operand.now }
+/// Whether an operand is one of a code's kind. No operand is one of a code that no instruction has (ECMA-335 VI.C.2).
+#[tactic(auto, using(crate::proofs::KindLemmas::fits_by))]
+pub fn is_of_kind(op: u16, operand: &Operand) -> bool
+    ensures value { result ≡ fits_kind (kind_of op) operand.now }
+    ensures of { IsTrue result ↔ IsOfKind (kind_of op) operand.now }
 {
     match operand_kind(op) {
         Some(kind) => is_of(kind, operand),
@@ -141,9 +144,9 @@ fn count_texts(code: &[Instr]) -> usize
     count
 }
 
-/// Whether a body and tokens meet what `encode_body` asks: operands are of their codes' kinds, targets and the starts of filters
-/// are instructions, the other bounds are at most the number of instructions, no end is before its start, and there are as many
-/// tokens as texts.
+/// Whether a body and tokens meet what `encode_body` asks: operands are of their codes' kinds, targets and the starts
+/// of filters are instructions, the other bounds are at most the number of instructions, no end is before its start,
+/// and there are as many tokens as texts.
 pub fn is_writable(body: &Body, texts: &List<u32>) -> bool
     ensures { IsTrue result ↔ (Writable body.now × (length texts.now ≡ length (texts_of body.now.code))) }
 {

@@ -1,19 +1,19 @@
 ghost use Rattle.std.specs.Prelude.{◌≡◌, ◌≤◌, ◌^◌, ◌++◌, ℕ, slice_index, length, OnOk};
 ghost use Rattle.std.specs.List.{AllByRecursion};
-ghost use Rattle.il_code.specs.Layout.{code_bytes, instr_bytes, op_bytes};
-ghost use Rattle.il_code.specs.Numbering.{place_in};
-ghost use Rattle.il_code.specs.Ranges.{InstrFits};
+ghost use Rattle.il_code.specs.CodeBytes.{code_bytes, instr_bytes, op_bytes};
+ghost use Rattle.il_code.specs.inner.Places.{instr_place};
+ghost use Rattle.il_code.specs.inner.Ranges.{InstrFits};
 ghost use Rattle.il_code.specs.Writable.{operand_texts};
 
 use crate::far::is_short;
 use crate::instr::Instr;
 use crate::operand::Operand;
-use crate::place::place_at;
+use crate::places::place_at;
 use crate::write_operand::write_operand;
 use cil_base::{Bytes, NoMemory};
 
 /// Writes a code: one byte, or FE and a second.
-#[tactic(auto, unfolding(crate::specs::Layout::op_bytes))]
+#[tactic(auto, unfolding(crate::specs::CodeBytes::op_bytes))]
 fn write_op(out: &mut Bytes, op: u16) -> Result<(), NoMemory>
     ensures ok { OnOk result (out.new ≡ out.old ++ op_bytes op) }
 {
@@ -26,7 +26,7 @@ fn write_op(out: &mut Bytes, op: u16) -> Result<(), NoMemory>
 }
 
 /// Writes an instruction that ends before a place. The token is that of its text.
-#[tactic(auto, unfolding(crate::specs::Layout::instr_bytes))]
+#[tactic(auto, unfolding(crate::specs::CodeBytes::instr_bytes))]
 fn write_instr(
     out: &mut Bytes,
     places: &[u128],
@@ -34,8 +34,8 @@ fn write_instr(
     token: u32,
     instr: &Instr,
 ) -> Result<(), NoMemory>
-    requires { (i : ℕ) → place_in places.now i ≤ 2 ^ 24 }
-    ensures ok { OnOk result (out.new ≡ out.old ++ instr_bytes (place_in places.now) after token instr.now) }
+    requires { (i : ℕ) → instr_place places.now i ≤ 2 ^ 24 }
+    ensures ok { OnOk result (out.new ≡ out.old ++ instr_bytes (instr_place places.now) after token instr.now) }
     ensures fits { OnOk result (InstrFits instr.now) }
 {
     write_op(out, instr.op)?;
@@ -68,15 +68,15 @@ pub(crate) fn text_count(operand: &Operand) -> usize
 }
 
 /// Writes the instructions, with the tokens for their texts in order.
-#[tactic(auto, unfolding(crate::specs::Layout::code_bytes))]
+#[tactic(auto, unfolding(crate::specs::CodeBytes::code_bytes))]
 pub(crate) fn write_code(
     out: &mut Bytes,
     places: &[u128],
     code: &[Instr],
     texts: &[u32],
 ) -> Result<(), NoMemory>
-    requires { (i : ℕ) → place_in places.now i ≤ 2 ^ 24 }
-    ensures ok { OnOk result (out.new ≡ out.old ++ code_bytes (place_in places.now) texts.now code.now) }
+    requires { (i : ℕ) → instr_place places.now i ≤ 2 ^ 24 }
+    ensures ok { OnOk result (out.new ≡ out.old ++ code_bytes (instr_place places.now) texts.now code.now) }
     ensures fits { OnOk result (AllByRecursion InstrFits code.now) }
 {
     let mut named = 0;

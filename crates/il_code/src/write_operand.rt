@@ -1,10 +1,10 @@
 ghost use Rattle.std.specs.Prelude.{◌≡◌, ◌<◌, ◌≤◌, ◌^◌, ◌++◌, ℕ, false, flat_map, OnOk};
-ghost use Rattle.il_code.specs.Layout.{distance as distance_of, operand_bytes, target_bytes};
-ghost use Rattle.il_code.specs.Numbering.{place_in};
-ghost use Rattle.il_code.specs.Ranges.{OperandFits};
+ghost use Rattle.il_code.specs.CodeBytes.{distance as distance_of, operand_bytes, target_bytes};
+ghost use Rattle.il_code.specs.inner.Places.{instr_place};
+ghost use Rattle.il_code.specs.inner.Ranges.{OperandFits};
 
 use crate::operand::Operand;
-use crate::place::place_at;
+use crate::places::place_at;
 use crate::put::{put, token_number};
 use cil_base::{Bytes, NoMemory};
 
@@ -35,8 +35,9 @@ fn write_targets(
     after: u32,
     targets: &[u32],
 ) -> Result<(), NoMemory>
-    requires { (i : ℕ) → place_in places.now i ≤ 2 ^ 24 }
-    ensures ok { OnOk result (out.new ≡ out.old ++ flat_map (λ t. target_bytes false after (place_in places.now t)) targets.now) }
+    requires { (i : ℕ) → instr_place places.now i ≤ 2 ^ 24 }
+    ensures ok { OnOk result (out.new ≡ out.old ++ flat_map (λ t.
+        target_bytes false after (instr_place places.now t)) targets.now) }
 {
     for target in targets {
         write_target(out, false, after, place_at(places, *target as usize))?;
@@ -45,7 +46,7 @@ fn write_targets(
 }
 
 /// Writes the operand of an instruction that ends before a place. The token is that of its text.
-#[tactic(auto, unfolding(crate::specs::Layout::operand_bytes))]
+#[tactic(auto, unfolding(crate::specs::CodeBytes::operand_bytes))]
 pub(crate) fn write_operand(
     out: &mut Bytes,
     places: &[u128],
@@ -54,8 +55,9 @@ pub(crate) fn write_operand(
     short: bool,
     operand: &Operand,
 ) -> Result<(), NoMemory>
-    requires { (i : ℕ) → place_in places.now i ≤ 2 ^ 24 }
-    ensures ok { OnOk result (out.new ≡ out.old ++ operand_bytes (place_in places.now) after token short operand.now) }
+    requires { (i : ℕ) → instr_place places.now i ≤ 2 ^ 24 }
+    ensures ok { OnOk result (out.new ≡ out.old
+        ++ operand_bytes (instr_place places.now) after token short operand.now) }
     ensures fits { OperandFits operand.now }
 {
     match operand {

@@ -1,15 +1,21 @@
 //! Sections as they are written: one, with all handlers (ECMA-335 II.25.4.5 and II.25.4.6).
 
-ghost use Rattle.std.specs.Prelude.{◌≡◌, ◌≤◌, ◌<◌, ◌+◌, ◌-◌, ◌^◌, ◌++◌, ℕ, true, false, map, flat_map, replicate, length, OnOk, IfOk};
+ghost use Rattle.std.specs.Prelude.{◌≡◌, ◌≤◌, ◌<◌, ◌+◌, ◌-◌, ◌^◌, ◌++◌, ℕ, true, false, map, flat_map, replicate};
+ghost use Rattle.std.specs.Prelude.{length, OnOk, IfOk};
 ghost use Rattle.std.specs.List.{AllByRecursion, list_all};
-ghost use Rattle.il_code.specs.Layout.{clause_bytes, clause_of, fits_small as fits_small_fields, kind_flags, kind_last, needs_fat as needs_fat_form, section_bytes, section_number};
-ghost use Rattle.il_code.specs.Numbering.{place_in};
-ghost use Rattle.il_code.specs.Ranges.{HandlerFits, KindFits};
+ghost use Rattle.il_code.specs.SectionBytes.{clause_bytes, clause_of, fits_small as fits_small_fields, kind_flags};
+ghost use Rattle.il_code.specs.SectionBytes.{kind_last, needs_fat as needs_fat_form, section_bytes, section_number};
+ghost use Rattle.il_code.specs.inner.Places.{instr_place};
+ghost use Rattle.il_code.specs.inner.Ranges.{HandlerFits, KindFits};
 ghost use Rattle.il_code.specs.Sections.{aligned};
 
 use crate::clause::Clause;
+use crate::format::{
+    CLAUSE_EXCEPTION, CLAUSE_FAULT, CLAUSE_FILTER, CLAUSE_FINALLY, SECT_EH_TABLE, SECT_FAT_FORMAT,
+    SECT_LEN, SMALL_COUNT,
+};
 use crate::handler::{Handler, HandlerKind};
-use crate::place::place_at;
+use crate::places::place_at;
 use crate::put::{put, token_number};
 use crate::section::clause_len;
 use cil_base::{Bytes, List, NoMemory};
@@ -20,17 +26,17 @@ fn flags(kind: HandlerKind) -> u32
     ensures { result ≡ kind_flags kind }
 {
     match kind {
-        HandlerKind::Typed(_) => 0,
-        HandlerKind::Filter(_) => 1,
-        HandlerKind::Finally => 2,
-        HandlerKind::Fault => 4,
+        HandlerKind::Typed(_) => CLAUSE_EXCEPTION,
+        HandlerKind::Filter(_) => CLAUSE_FILTER,
+        HandlerKind::Finally => CLAUSE_FINALLY,
+        HandlerKind::Fault => CLAUSE_FAULT,
     }
 }
 
 /// The last field of a handler's clause.
 fn last(places: &[u128], kind: HandlerKind) -> u32
-    requires { (i : ℕ) → place_in places.now i ≤ 2 ^ 24 }
-    ensures value { result ≡ kind_last (place_in places.now) kind }
+    requires { (i : ℕ) → instr_place places.now i ≤ 2 ^ 24 }
+    ensures value { result ≡ kind_last (instr_place places.now) kind }
     ensures fits { KindFits kind }
 {
     match kind {
@@ -42,8 +48,8 @@ fn last(places: &[u128], kind: HandlerKind) -> u32
 
 /// The clause of a handler.
 fn clause(places: &[u128], handler: &Handler) -> Clause
-    requires { (i : ℕ) → place_in places.now i ≤ 2 ^ 24 }
-    ensures value { result ≡ clause_of (place_in places.now) handler.now }
+    requires { (i : ℕ) → instr_place places.now i ≤ 2 ^ 24 }
+    ensures value { result ≡ clause_of (instr_place places.now) handler.now }
     ensures fits { HandlerFits handler.now }
 {
     let try_offset = place_at(places, handler.try_start as usize);
@@ -62,8 +68,8 @@ fn clause(places: &[u128], handler: &Handler) -> Clause
 
 /// The clauses of handlers.
 fn clauses(alloc: Global, places: &[u128], handlers: &[Handler]) -> Result<List<Clause>, NoMemory>
-    requires { (i : ℕ) → place_in places.now i ≤ 2 ^ 24 }
-    ensures value { IfOk result (λ all. all ≡ map (clause_of (place_in places.now)) handlers.now) }
+    requires { (i : ℕ) → instr_place places.now i ≤ 2 ^ 24 }
+    ensures value { IfOk result (λ all. all ≡ map (clause_of (instr_place places.now)) handlers.now) }
     ensures fits { IfOk result (λ _. AllByRecursion HandlerFits handlers.now) }
 {
     let mut all = List::new(alloc);
@@ -94,7 +100,7 @@ fn all_fit(clauses: &[Clause]) -> bool
 fn needs_fat(clauses: &[Clause]) -> bool
     ensures { result ≡ needs_fat_form clauses.now }
 {
-    if clauses.len() <= 20 {
+    if clauses.len() <= SMALL_COUNT {
         !all_fit(clauses)
     } else {
         true
@@ -102,7 +108,7 @@ fn needs_fat(clauses: &[Clause]) -> bool
 }
 
 /// Writes a clause of 12 bytes.
-#[tactic(auto, unfolding(crate::specs::Layout::clause_bytes))]
+#[tactic(auto, unfolding(crate::specs::SectionBytes::clause_bytes))]
 fn write_small(out: &mut Bytes, clause: &Clause) -> Result<(), NoMemory>
     ensures ok { OnOk result (out.new ≡ out.old ++ clause_bytes false clause.now) }
 {
@@ -116,7 +122,7 @@ fn write_small(out: &mut Bytes, clause: &Clause) -> Result<(), NoMemory>
 }
 
 /// Writes a clause of 24 bytes.
-#[tactic(auto, unfolding(crate::specs::Layout::clause_bytes))]
+#[tactic(auto, unfolding(crate::specs::SectionBytes::clause_bytes))]
 fn write_fat(out: &mut Bytes, clause: &Clause) -> Result<(), NoMemory>
     ensures ok { OnOk result (out.new ≡ out.old ++ clause_bytes true clause.now) }
 {
@@ -165,8 +171,9 @@ fn head(fat: bool, count: usize) -> u64
     requires { count < 2 ^ 32 }
     ensures { result ≡ section_number fat count }
 {
-    let kind = if fat { 0x41 } else { 0x01 };
-    kind + 0x100 * (4 + count as u64 * clause_len(fat) as u64)
+    let form = if fat { SECT_FAT_FORMAT } else { 0 };
+    let kind = (SECT_EH_TABLE + form) as u64;
+    kind + 0x100 * (SECT_LEN as u64 + count as u64 * clause_len(fat) as u64)
 }
 
 /// How many bytes are missing to the next multiple of four.
@@ -178,16 +185,17 @@ fn padding(place: usize) -> usize
 }
 
 /// Writes a section with the clauses of handlers behind what is written so far.
-#[tactic(auto, unfolding(crate::specs::Layout::section_bytes))]
+#[tactic(auto, unfolding(crate::specs::SectionBytes::section_bytes))]
 pub(crate) fn write_section(
     alloc: Global,
     out: &mut Bytes,
     places: &[u128],
     handlers: &[Handler],
 ) -> Result<(), NoMemory>
-    requires small { (i : ℕ) → place_in places.now i ≤ 2 ^ 24 }
+    requires small { (i : ℕ) → instr_place places.now i ≤ 2 ^ 24 }
     requires few { length handlers.now < 2 ^ 32 }
-    ensures ok { OnOk result (out.new ≡ out.old ++ section_bytes (map (clause_of (place_in places.now)) handlers.now) (length out.old)) }
+    ensures ok { OnOk result (out.new ≡ out.old
+        ++ section_bytes (map (clause_of (instr_place places.now)) handlers.now) (length out.old)) }
     ensures fits { OnOk result (AllByRecursion HandlerFits handlers.now) }
 {
     let clauses = clauses(alloc, places, handlers)?;

@@ -1,10 +1,13 @@
-use Rattle.std.proofs.Common.{Some, sym, ap, ◌∙◌, arith}
-use Rattle.il_code.proofs.CodeLemmas.{instr_within, size_of-pos, read-more, read-stop, read-over, stand-length}
+use Rattle.std.proofs.Common.{subst, sym, ◌∙◌, arith}
+use Rattle.il_code.proofs.CodeLemmas.{instr_within, size_of-pos}
+use Rattle.il_code.proofs.DecodedLemmas.{Read, read-more, read-over, read-start, read-stop}
 use Rattle.il_code.proofs.read_code.read_code.Goals as goal
 
-pub returns-in_default-clause-only : goal.returns-in_default-clause-only
-returns-in_default-clause-only c = λ xs s.
-    absurd (read-stop c.args.users.now c.args.code.now c.loop-place.all c.loop-place.place c.loop-place-test.true (sym c.in_ok-instr.ensures ∙ c.in_default.is) c.loop-place.invariant xs s)
+pub loop-place-init : goal.loop-place-init
+loop-place-init c = subst (λ front. Read c.args.users.now c.args.code.now front 0) (sym c.new-all.ensures) (read-start c.args.users.now c.args.code.now)
+
+pub returns-in_default-clause-value : goal.returns-in_default-clause-value
+returns-in_default-clause-value c = read-stop c.args.users.now c.args.code.now c.loop-place.all c.loop-place.place c.loop-place-test.true (sym c.in_ok-instr.ensures ∙ c.in_default.is) c.loop-place.invariant
 
 pub overflow_cast-place : goal.overflow_cast-place
 overflow_cast-place c =
@@ -23,19 +26,12 @@ loop-place-smaller c =
 
 pub loop-place-preserved : goal.loop-place-preserved
 loop-place-preserved c =
+    let end = instr_within c.args.users.now c.args.code.now c.loop-place.place c.in-Some.instr (λ i. omega (arith, c.type_inv.code i)) (sym c.in_ok-instr.ensures ∙ c.in-Some.is) in
     rw (c.in_ok-push.ensures.ok, c.size.ensures.value)
-    (read-more c.args.users.now c.args.code.now c.loop-place.all c.loop-place.place c.in-Some.instr (λ i. omega (arith, c.type_inv.code i)) c.loop-place-test.true (sym c.in_ok-instr.ensures ∙ c.in-Some.is) c.loop-place.invariant)
+    (read-more c.args.users.now c.args.code.now c.loop-place.all c.loop-place.place c.in-Some.instr c.loop-place-test.true end (sym c.in_ok-instr.ensures ∙ c.in-Some.is) c.loop-place.invariant)
 
-pub returns-clause-found : goal.returns-clause-found
-returns-clause-found c =
-    (read-over c.args.users.now c.args.code.now c.loop-place.all c.loop-place.place (λ i. omega (arith, c.type_inv.code i)) c.loop-place-test.false c.loop-place.invariant).0
-
-pub returns-clause-only : goal.returns-clause-only
-returns-clause-only c = λ xs s.
-    ap Some (sym ((read-over c.args.users.now c.args.code.now c.loop-place.all c.loop-place.place (λ i. omega (arith, c.type_inv.code i)) c.loop-place-test.false c.loop-place.invariant).1 xs s))
+pub returns-clause-value : goal.returns-clause-value
+returns-clause-value c = read-over c.args.users.now c.args.code.now c.loop-place.all c.loop-place.place c.loop-place-test.false c.loop-place.invariant
 
 pub returns-clause-few : goal.returns-clause-few
-returns-clause-few c =
-    let few = stand-length c.args.users.now c.args.code.now 0 c.loop-place.all (λ i. omega (arith, c.type_inv.code i))
-    (read-over c.args.users.now c.args.code.now c.loop-place.all c.loop-place.place (λ i. omega (arith, c.type_inv.code i)) c.loop-place-test.false c.loop-place.invariant).0 in
-    omega (arith, few)
+returns-clause-few c = omega (arith, c.loop-place.invariant.few, c.loop-place.invariant.within)

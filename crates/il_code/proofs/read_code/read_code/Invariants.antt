@@ -1,5 +1,5 @@
 use Rattle.std.proofs.Common.{length, ◌-◌}
-use Rattle.il_code.proofs.CodeLemmas.{Read}
+use Rattle.il_code.proofs.DecodedLemmas.{Read}
 use Rattle.il_code.proofs.read_code.read_code.Given as goal
 
 abbrev pub invariant-loop-place : goal.invariant-loop-place

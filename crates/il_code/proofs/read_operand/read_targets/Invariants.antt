@@ -1,6 +1,6 @@
 use Rattle.std.proofs.Common.{◌≡◌, ◌+◌, ◌-◌, ◌*◌}
 use Rattle.il_code.specs.Code.{switch_target_at}
-use Rattle.il_code.specs.Numbers.{items_at}
+use Rattle.il_code.specs.Items.{items_at}
 use Rattle.il_code.proofs.ItemLemmas.{with_front}
 use Rattle.il_code.proofs.read_operand.read_targets.Given as goal
 

@@ -2,17 +2,17 @@ use Rattle.std.proofs.Common.{◌≡◌, ◌+◌, ◌++◌, take, length, slice_
 use Rattle.std.specs.List.{AllByRecursion, flat_map, enumerate_from}
 use Rattle.std.proofs.lemmas.List.{take_all}
 use Rattle.std.proofs.lemmas.List.FromFn.{length-enumerate_from}
-use Rattle.il_code.specs.Layout.{instr_bytes, numbered_bytes, code_bytes, token_at}
-use Rattle.il_code.specs.Numbering.{place_in}
+use Rattle.il_code.specs.CodeBytes.{instr_bytes, numbered_bytes, code_bytes, token_at}
+use Rattle.il_code.specs.inner.Places.{instr_place}
 use Rattle.il_code.specs.Writable.{texts_of}
-use Rattle.il_code.specs.Ranges.{InstrFits}
+use Rattle.il_code.specs.inner.Ranges.{InstrFits}
 use Rattle.il_code.proofs.LayoutLemmas.{code-more, texts-more}
 use Rattle.il_code.proofs.WritableLemmas.{all-more}
 use Rattle.il_code.proofs.write_code.write_code.Goals as goal
 
 pub loop-i-preserved : goal.loop-i-preserved
 loop-i-preserved c =
-    let place = place_in c.args.places.now in
+    let place = instr_place c.args.places.now in
     let x = c.index-code-i.result in
     let token : c.token.result ≡ token_at c.args.texts.now c.args.code.now c.loop-i.i = c.token.ensures ∙ ap (λ k. slice_index c.args.texts.now k) c.loop-i.invariant.named in
     let bytes : c.write_instr.new.out ≡ c.loop-i.out ++ numbered_bytes place c.args.texts.now c.args.code.now (c.loop-i.i, x) =
@@ -28,4 +28,4 @@ loop-i-preserved c =
 
 pub returns : goal.returns
 unfolding code_bytes
-returns c = record { fits = subst (AllByRecursion InstrFits) (take_all c.loop-i.i c.args.code.now c.loop-i-test.false) c.loop-i.invariant.fits; ok = c.loop-i.invariant.written ∙ ap (λ es. c.args.out.now ++ flat_map (numbered_bytes (place_in c.args.places.now) c.args.texts.now c.args.code.now) es) (take_all c.loop-i.i (enumerate_from 0 c.args.code.now) (omega (arith, c.loop-i-test.false, length-enumerate_from 0 c.args.code.now))) }
+returns c = record { fits = subst (AllByRecursion InstrFits) (take_all c.loop-i.i c.args.code.now c.loop-i-test.false) c.loop-i.invariant.fits; ok = c.loop-i.invariant.written ∙ ap (λ es. c.args.out.now ++ flat_map (numbered_bytes (instr_place c.args.places.now) c.args.texts.now c.args.code.now) es) (take_all c.loop-i.i (enumerate_from 0 c.args.code.now) (omega (arith, c.loop-i-test.false, length-enumerate_from 0 c.args.code.now))) }

@@ -1,14 +1,14 @@
 use Rattle.std.proofs.Common.{◌≡◌, ◌++◌, ◌≤◌, take, length}
 use Rattle.std.specs.List.{AllByRecursion, flat_map, enumerate_from}
-use Rattle.il_code.specs.Layout.{numbered_bytes}
-use Rattle.il_code.specs.Numbering.{place_in}
-use Rattle.il_code.specs.Ranges.{InstrFits}
+use Rattle.il_code.specs.CodeBytes.{numbered_bytes}
+use Rattle.il_code.specs.inner.Places.{instr_place}
+use Rattle.il_code.specs.inner.Ranges.{InstrFits}
 use Rattle.il_code.specs.Writable.{texts_of}
 use Rattle.il_code.proofs.write_code.write_code.Given as goal
 
 abbrev pub invariant-loop-i : goal.invariant-loop-i
 invariant-loop-i l = record {
-  written : l.out ≡ l.initial.out ++ flat_map (numbered_bytes (place_in l.places) l.texts l.code) (take l.i (enumerate_from 0 l.code));
+  written : l.out ≡ l.initial.out ++ flat_map (numbered_bytes (instr_place l.places) l.texts l.code) (take l.i (enumerate_from 0 l.code));
   named : l.named ≡ length (texts_of (take l.i l.code));
   few : l.named ≤ l.i;
   fits : AllByRecursion InstrFits (take l.i l.code);

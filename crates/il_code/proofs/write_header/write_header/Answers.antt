@@ -1,8 +1,9 @@
 use Rattle.std.proofs.Common.{◌≡◌, ◌++◌, ◌+◌, ◌*◌, cond, false, sym, ap, subst, arith, ◌∙◌}
 use Rattle.byteorder.specs.Endian.{little_bytes}
 use Rattle.il_code.specs.Body.{Body}
-use Rattle.il_code.specs.Ranges.{TokenFits}
-use Rattle.il_code.specs.Layout.{flags_of, header_bytes, is_tiny, token_number}
+use Rattle.il_code.specs.inner.Ranges.{TokenFits}
+use Rattle.cil_base.specs.Token.{token_number}
+use Rattle.il_code.specs.HeaderBytes.{flags_of, header_bytes, is_tiny}
 use Rattle.il_code.proofs.LayoutLemmas.{four-put}
 use Rattle.il_code.proofs.write_header.write_header.Goals as goal
 

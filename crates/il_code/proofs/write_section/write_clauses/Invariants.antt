@@ -1,6 +1,6 @@
 use Rattle.std.proofs.Common.{◌≡◌, ◌++◌, take}
 use Rattle.std.specs.List.{flat_map}
-use Rattle.il_code.specs.Layout.{clause_bytes}
+use Rattle.il_code.specs.SectionBytes.{clause_bytes}
 use Rattle.il_code.proofs.write_section.write_clauses.Given as goal
 
 abbrev pub invariant-loop-clause : goal.invariant-loop-clause

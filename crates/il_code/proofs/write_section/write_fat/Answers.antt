@@ -1,5 +1,5 @@
 use Rattle.byteorder.specs.Endian.{little_bytes}
-use Rattle.il_code.specs.Layout.{clause_bytes}
+use Rattle.il_code.specs.SectionBytes.{clause_bytes}
 use Rattle.il_code.proofs.LayoutLemmas.{six-put}
 use Rattle.il_code.proofs.write_section.write_fat.Goals as goal
 
