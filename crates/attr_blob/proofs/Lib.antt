@@ -1,0 +1,9 @@
+pub mod ArgLemmas
+pub mod AttrLemmas
+pub mod Depth
+pub mod Leaves
+pub mod NeedLemmas
+pub mod SpellLemmas
+mod StandardFacts
+pub mod StepLemmas
+pub mod TypeLemmas

@@ -1,0 +1,3 @@
+-- Words of the code alone: no public contract cites them.
+pub mod Steps
+pub mod Reading
