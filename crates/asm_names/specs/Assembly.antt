@@ -9,8 +9,8 @@ abbrev pub hex_text : List ℕ → List ℕ
 hex_text bytes = flat_map hex_pair bytes
 
 -- the parts in decimal, with a point between two of them
-abbrev pub version_text : List ℕ → List ℕ
-version_text parts = join_with_byte 0x2e (map decimal parts)
+abbrev pub assembly_version_text : List ℕ → List ℕ
+assembly_version_text parts = join_with_byte 0x2e (map decimal parts)
 
 abbrev pub culture_text : List ℕ → List ℕ
 culture_text [] = codes "neutral"
@@ -22,5 +22,5 @@ key_token_text (b ∷ bs) = hex_text (b ∷ bs)
 
 abbrev pub assembly_text : List ℕ → List ℕ → List ℕ → List ℕ → List ℕ
 assembly_text name version culture token =
-    name ++ codes ", Version=" ++ version_text version ++ codes ", Culture=" ++ culture_text culture
+    name ++ codes ", Version=" ++ assembly_version_text version ++ codes ", Culture=" ++ culture_text culture
     ++ codes ", PublicKeyToken=" ++ key_token_text token

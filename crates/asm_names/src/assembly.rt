@@ -1,5 +1,5 @@
 ghost use Rattle.std.specs.Prelude.{◌≡◌, ◌++◌, IfOk, OnOk};
-ghost use Rattle.asm_names.specs.Assembly.{assembly_text, culture_text, key_token_text, version_text};
+ghost use Rattle.asm_names.specs.Assembly.{assembly_text, culture_text, key_token_text, assembly_version_text};
 
 use crate::hex::add_hex;
 use cil_base::{Bytes, List, NoMemory};
@@ -28,7 +28,7 @@ pub fn assembly_text(
 
 /// Adds four numbers with points between them.
 fn add_version(text: &mut Bytes, version: [u16; 4]) -> Result<(), NoMemory>
-    ensures { OnOk result (text.new ≡ text.old ++ version_text version) }
+    ensures { OnOk result (text.new ≡ text.old ++ assembly_version_text version) }
 {
     let [major, minor, build, revision] = version;
     let digits = format!(in text.allocator(); "{major}.{minor}.{build}.{revision}")?;

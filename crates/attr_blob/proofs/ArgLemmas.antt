@@ -6,11 +6,11 @@ use Rattle.std.proofs.lemmas.List.{length-map}
 use Rattle.cil_base.specs.Steps.{◌>>=◌}
 use Rattle.cil_base.proofs.StepLemmas.{split, came}
 use Rattle.attr_blob.specs.Fronts.{strip_little, strip_row, fits_in}
-use Rattle.attr_blob.specs.Types.{is_numeric, number_width, type_fits, strip_type, enum_width}
+use Rattle.attr_blob.specs.Types.{is_numeric, number_width, arg_type_fits, strip_type, enum_width}
 use Rattle.attr_blob.specs.Args.{strip_arg_level, strip_arg, EachItem, has_type_level, HasType, StandsArg}
 use Rattle.attr_blob.specs.Needs.{NeedsWidth}
 use Rattle.attr_blob.specs.inner.Steps.{Found, onward}
-use Rattle.attr_blob.specs.inner.Reading.{little_at, nullable_at, type_at, number_arg, text_or, enum_of, boxed_arg, many_at, items_arg, array_arg, level_at, arg_at}
+use Rattle.attr_blob.specs.inner.Reading.{little_at, nullable_at, arg_type_at, number_arg, text_or, enum_of, boxed_arg, many_items_at, items_arg, array_arg, arg_level_at, arg_at}
 use Rattle.attr_blob.specs.declared.stop.Stop.TheVariants.{Lacks, Fails}
 use Rattle.attr_blob.specs.declared.value.EnumWidth.{EnumWidth}
 use Rattle.attr_blob.specs.declared.value.ArgType.{ArgType}
@@ -78,7 +78,7 @@ name_stands w d t (Some text) s r is h = stands-of w d t (Arg-F.TypeName text) (
 
 boxed_sound : (w : List EnumWidth) (d : ℕ) → ArgExact w d → (t : ArgType) (a : Arg) (s r : List ℕ) → t ≡ types.Boxed → boxed_arg (arg_at w d) s ≡ Ok (a, r) → ArgStands w d t a s r
 boxed_sound w d exact t a s r is h =
-    let c = behind_ok (type_at s) (λ ty rest. onward (arg_at w d ty rest) (λ arg after. Ok (args.Boxed ty arg, after))) (a, r) h in
+    let c = behind_ok (arg_type_at s) (λ ty rest. onward (arg_at w d ty rest) (λ arg after. Ok (args.Boxed ty arg, after))) (a, r) h in
     let o = onward_ok (arg_at w d c.value c.rest) (λ arg after. Ok (args.Boxed c.value arg, after)) (a, r) c.then in
     let p = type_sound s c.value c.rest c.first in
     let q = exact.sound c.value o.value c.rest o.rest o.first in
@@ -105,12 +105,12 @@ few count h = (grind (arith, nat_tests), grind (arith, nat_tests))
 
 items_sound : (w : List EnumWidth) (d : ℕ) → ArgExact w d → (t elem : ArgType) (count : ℕ) (a : Arg) (s m r : List ℕ) → t ≡ types.Array elem → strip_little 4 count s ≡ Some m → fits_in 4 count ≡ true → items_arg elem (arg_at w d elem) count m ≡ Ok (a, r) → ArgStands w d t a s r
 items_sound w d exact t elem count a s m r is stood fits h =
-    split {P = ArgStands w d t a s r} (eqb count 0xffffffff) (Ok (args.NullArray elem, m)) (onward (many_at (arg_at w d elem) count m) (λ items after. Ok (args.Array elem items, after))) (Ok (a, r)) h
+    split {P = ArgStands w d t a s r} (eqb count 0xffffffff) (Ok (args.NullArray elem, m)) (onward (many_items_at (arg_at w d elem) count m) (λ items after. Ok (args.Array elem items, after))) (Ok (a, r)) h
     (λ e f. along_ok (λ a r. ArgStands w d t a s r) (args.NullArray elem) a m r f
     (stands-of w d t (Arg-F.NullArray elem) (args.NullArray elem) s m (arg_views.rolls-NullArray elem) (arg_views.outs-NullArray elem)
     (ap (λ n. strip_little 4 n s) (sym (eqb-true count 0xffffffff e)) ∙ stood) is))
     (λ e f.
-    let o = onward_ok (many_at (arg_at w d elem) count m) (λ items after. Ok (args.Array elem items, after)) (a, r) f in
+    let o = onward_ok (many_items_at (arg_at w d elem) count m) (λ items after. Ok (args.Array elem items, after)) (a, r) f in
     let p = many_sound (arg_at w d elem) (StandsArg w d elem) strip_arg (HasType w d elem) (λ n s. NeedsWidth w d n elem s) (item_exact w d exact elem) count o.value m o.rest o.first in
     along_ok (λ a r. ArgStands w d t a s r) (args.Array elem o.value) a o.rest r o.then
     (stands-of w d t (Arg-F.Array elem o.value) (args.Array elem o.value) s o.rest (arg_views.rolls-Array elem o.value) (arg_views.outs-Array elem o.value)
@@ -118,8 +118,8 @@ items_sound w d exact t elem count a s m r is stood fits h =
     ∙ ap (λ (found : Option (List ℕ)). found >>= strip_row (map strip_arg o.value)) stood ∙ p.strips)
     (is, subst (λ n. n < 2 ^ 32 - 1) (sym p.count) (counted count fits e), p.each)))
 
-pub level_sound : (w : List EnumWidth) (d : ℕ) → ArgExact w d → (t : ArgType) (x : ArgType-F ArgType) (a : Arg) (s r : List ℕ) → t ≡ roll-ArgType x → level_at w (arg_at w d) x s ≡ Ok (a, r) → ArgStands w d t a s r
-unfolding level_at
+pub level_sound : (w : List EnumWidth) (d : ℕ) → ArgExact w d → (t : ArgType) (x : ArgType-F ArgType) (a : Arg) (s r : List ℕ) → t ≡ roll-ArgType x → arg_level_at w (arg_at w d) x s ≡ Ok (a, r) → ArgStands w d t a s r
+unfolding arg_level_at
 level_sound w d exact t (ArgType-F.Prim elem) a s r is h = num_sound w d t elem a s r (is ∙ type_views.rolls-Prim elem) h
 level_sound w d exact t ArgType-F.Text a s r is h =
     let c = behind_ok (nullable_at s) (λ text rest. Ok (text_or args.Text args.NullText text, rest)) (a, r) h in
@@ -137,8 +137,8 @@ level_sound w d exact t (ArgType-F.Array elem) a s r is h =
     items_sound w d exact t elem c.value a s c.rest r (is ∙ type_views.rolls-Array elem) p.0 p.1 c.then
 
 -- what is read of a type, by the type's own form
-at_type : (w : List EnumWidth) (d : ℕ) (t u : ArgType) (x : ArgType-F ArgType) (s : List ℕ) → t ≡ u → out-ArgType u ≡ x → level_at w (arg_at w d) (out-ArgType t) s ≡ level_at w (arg_at w d) x s
-at_type w d t u x s is out = ap (λ y. level_at w (arg_at w d) y s) (ap out-ArgType is ∙ out)
+at_type : (w : List EnumWidth) (d : ℕ) (t u : ArgType) (x : ArgType-F ArgType) (s : List ℕ) → t ≡ u → out-ArgType u ≡ x → arg_level_at w (arg_at w d) (out-ArgType t) s ≡ arg_level_at w (arg_at w d) x s
+at_type w d t u x s is out = ap (λ y. arg_level_at w (arg_at w d) y s) (ap out-ArgType is ∙ out)
 
 array_full : (w : List EnumWidth) (d : ℕ) → ArgExact w d → (elem : ArgType) (items : List Arg) (s r : List ℕ) → length items < 2 ^ 32 - 1 → EachItem (HasType w d elem) items
     → (strip_little 4 (length (map strip_arg items)) s >>= strip_row (map strip_arg items)) ≡ Some r → array_arg elem (arg_at w d elem) s ≡ Ok (args.Array elem items, r)
@@ -147,18 +147,18 @@ array_full w d exact elem items s r small each h =
     let f = few (length items) small in
     let stood : strip_little 4 (length items) s ≡ Some c.by = ap (λ n. strip_little 4 n s) (sym (length-map items strip_arg)) ∙ c.first in
     goes_behind (little_at 4 s) (λ count rest. items_arg elem (arg_at w d elem) count rest) (length items) c.by (little_full 4 (length items) s c.by stood f.0)
-    ∙ ap (λ (b : Bool). cond {A = Found Arg} b (Ok (args.NullArray elem, c.by)) (onward (many_at (arg_at w d elem) (length items) c.by) (λ items after. Ok (args.Array elem items, after)))) f.1
-    ∙ goes_onward (many_at (arg_at w d elem) (length items) c.by) (λ items after. Ok (args.Array elem items, after)) items r
+    ∙ ap (λ (b : Bool). cond {A = Found Arg} b (Ok (args.NullArray elem, c.by)) (onward (many_items_at (arg_at w d elem) (length items) c.by) (λ items after. Ok (args.Array elem items, after)))) f.1
+    ∙ goes_onward (many_items_at (arg_at w d elem) (length items) c.by) (λ items after. Ok (args.Array elem items, after)) items r
     (many_full (arg_at w d elem) (StandsArg w d elem) strip_arg (HasType w d elem) (λ n s. NeedsWidth w d n elem s) (item_exact w d exact elem) items c.by r c.after each)
 
-boxed_full : (w : List EnumWidth) (d : ℕ) → ArgExact w d → (inner : ArgType) (value : Arg) (s r : List ℕ) → HasType w d inner value → type_fits inner ≡ true → (strip_type inner s >>= strip_arg value) ≡ Some r → boxed_arg (arg_at w d) s ≡ Ok (args.Boxed inner value, r)
+boxed_full : (w : List EnumWidth) (d : ℕ) → ArgExact w d → (inner : ArgType) (value : Arg) (s r : List ℕ) → HasType w d inner value → arg_type_fits inner ≡ true → (strip_type inner s >>= strip_arg value) ≡ Some r → boxed_arg (arg_at w d) s ≡ Ok (args.Boxed inner value, r)
 boxed_full w d exact inner value s r typed fits h =
     let c = came (strip_type inner s) (strip_arg value) r h in
-    goes_behind (type_at s) (λ ty rest. onward (arg_at w d ty rest) (λ arg after. Ok (args.Boxed ty arg, after))) inner c.by (type_full s inner c.by c.first fits)
+    goes_behind (arg_type_at s) (λ ty rest. onward (arg_at w d ty rest) (λ arg after. Ok (args.Boxed ty arg, after))) inner c.by (type_full s inner c.by c.first fits)
     ∙ goes_onward (arg_at w d inner c.by) (λ arg after. Ok (args.Boxed inner arg, after)) value r (exact.full inner value c.by r (record { strips = c.after; typed = typed }))
 
 -- what has a type has one that can be spelled
-pub typed_fits : (w : List EnumWidth) (d : ℕ) (t : ArgType) (a : Arg) → HasType w d t a → type_fits t ≡ true
+pub typed_fits : (w : List EnumWidth) (d : ℕ) (t : ArgType) (a : Arg) → HasType w d t a → arg_type_fits t ≡ true
 unfolding HasType
 typed_fits w zero t a h = absurd h
 typed_fits w (suc d) t a h = h.0
@@ -171,8 +171,8 @@ enum_full w name elem bits s r known numeric fits h =
     ∙ goes_behind (little_at (number_width elem) s) (λ bits rest. Ok (args.Enum name elem bits, rest)) bits r (little_full (number_width elem) bits s r h fits)
 
 pub level_full : (w : List EnumWidth) (d : ℕ) → ArgExact w d → (t : ArgType) (y : Arg-F Arg) (s r : List ℕ) → has_type_level w (HasType w d) t y → strip_arg_level (map-Arg Arg Strip strip_arg y) s ≡ Some r
-    → level_at w (arg_at w d) (out-ArgType t) s ≡ Ok (roll-Arg y, r)
-unfolding level_at
+    → arg_level_at w (arg_at w d) (out-ArgType t) s ≡ Ok (roll-Arg y, r)
+unfolding arg_level_at
 level_full w d exact t (Arg-F.Num elem bits) s r is h =
     at_type w d t (types.Prim elem) (ArgType-F.Prim elem) s is.0 (type_views.outs-Prim elem)
     ∙ goes_behind (little_at (number_width elem) s) (λ bits rest. Ok (args.Num elem bits, rest)) bits r (little_full (number_width elem) bits s r h is.1)

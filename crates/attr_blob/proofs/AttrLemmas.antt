@@ -7,13 +7,13 @@ use Rattle.cil_base.specs.Number.{strip_bytes}
 use Rattle.cil_base.specs.Steps.{◌>>=◌}
 use Rattle.cil_base.proofs.StepLemmas.{split, came}
 use Rattle.attr_blob.specs.Fronts.{strip_little, strip_text, strip_row, fits_in}
-use Rattle.attr_blob.specs.Types.{type_fits, strip_type, enum_width}
+use Rattle.attr_blob.specs.Types.{arg_type_fits, strip_type, enum_width}
 use Rattle.attr_blob.specs.Args.{strip_arg, has_type_level, HasType}
 use Rattle.attr_blob.specs.Attrs.{arg_depth_limit, named_mark, strip_named, strip_attr, HasNamedType, HasTypes, HasAttrType, ReadsAttr}
 use Rattle.attr_blob.specs.Needs.{needs_level, NeedsWidth, FixedNeeds, StandsNamed, lacks_level, NamedNeeds, LaterNamedNeeds, AttrNeeds}
 use Rattle.attr_blob.specs.Decoded.{whole_blob, answer_of, attr_at, ValueExactly, UnknownExactly}
 use Rattle.attr_blob.specs.inner.Steps.{Found, behind, onward}
-use Rattle.attr_blob.specs.inner.Reading.{little_at, text_at, type_at, many_at, arg_at, mark_at, without_width, lacking_level, lacking, named_value, named_typed, named_at, fixed_at, after_fixed, value_at}
+use Rattle.attr_blob.specs.inner.Reading.{little_at, text_at, arg_type_at, many_items_at, arg_at, mark_at, without_width, lacking_level, lacking, named_value, named_typed, named_at, fixed_at, after_fixed, value_at}
 use Rattle.attr_blob.specs.declared.stop.Stop.TheVariants.{Lacks, Fails}
 use Rattle.attr_blob.specs.declared.value.EnumWidth.{EnumWidth}
 use Rattle.attr_blob.specs.declared.value.ArgType.{ArgType}
@@ -101,7 +101,7 @@ unfolding NeedsWidth lacking
 own w zero n m t s h k = absurd h
 own w (suc d) n m t s h k = level_own w d (NeedsWidth w d n) (out-ArgType t) n m s h.1 k
 
-needs_fits : (w : List EnumWidth) (d : ℕ) (n : List ℕ) (t : ArgType) (s : List ℕ) → NeedsWidth w d n t s → type_fits t ≡ true
+needs_fits : (w : List EnumWidth) (d : ℕ) (n : List ℕ) (t : ArgType) (s : List ℕ) → NeedsWidth w d n t s → arg_type_fits t ≡ true
 unfolding NeedsWidth
 needs_fits w zero n t s h = absurd h
 needs_fits w (suc d) n t s h = h.0
@@ -113,7 +113,7 @@ abbrev type_next : List EnumWidth → Bool → ArgType → List ℕ → Found Na
 type_next w property ty after = named_typed w property ty (lacking w ty) after
 
 abbrev mark_next : List EnumWidth → Bool → List ℕ → Found NamedArg
-mark_next w property rest = behind (type_at rest) (type_next w property)
+mark_next w property rest = behind (arg_type_at rest) (type_next w property)
 
 abbrev named_of : Bool → ArgType → List ℕ → Arg → NamedArg
 named_of property ty name value = record { property = property; ty = ty; name = name; value = value }
@@ -126,7 +126,7 @@ named_sound : (w : List EnumWidth) (a : NamedArg) (s r : List ℕ) → named_at 
 unfolding named_at
 named_sound w a s r h =
     let c = behind_ok (mark_at s) (mark_next w) (a, r) h in
-    let d = behind_ok (type_at c.rest) (type_next w c.value) (a, r) c.then in
+    let d = behind_ok (arg_type_at c.rest) (type_next w c.value) (a, r) c.then in
     let e = behind_ok (text_at d.rest) (value_next w c.value d.value) (a, r) (typed_ok w c.value d.value (lacking w d.value) d.rest a r d.then) in
     let f = onward_ok (arg_at w arg_depth_limit d.value e.rest) (λ value after. Ok (named_of c.value d.value e.value value, after)) (a, r) e.then in
     let mark = mark_sound s c.value c.rest c.first in
@@ -149,7 +149,7 @@ named_full w a s r h =
     let x = came (strip_bytes (named_mark a.property ∷ []) s) (strip_type a.ty) y.by y.first in
     let typed = h.typed.value in
     goes_behind (mark_at s) (mark_next w) a.property x.by (mark_full a.property s x.by x.first)
-    ∙ goes_behind (type_at x.by) (type_next w a.property) a.ty y.by (type_full x.by a.ty y.by x.after (typed_fits w arg_depth_limit a.ty a.value typed))
+    ∙ goes_behind (arg_type_at x.by) (type_next w a.property) a.ty y.by (type_full x.by a.ty y.by x.after (typed_fits w arg_depth_limit a.ty a.value typed))
     ∙ ap (λ (o : Option (List ℕ)). named_typed w a.property a.ty o y.by) (known w arg_depth_limit a.ty a.value typed)
     ∙ goes_behind (text_at y.by) (value_next w a.property a.ty) a.name z.by (text_full y.by a.name z.by y.after)
     ∙ goes_onward (arg_at w arg_depth_limit a.ty z.by) (λ value after. Ok (named_of a.property a.ty a.name value, after)) a.value r
@@ -173,7 +173,7 @@ named_lacks : (w : List EnumWidth) (n s : List ℕ) → named_at w s ≡ Err (La
 unfolding named_at
 named_lacks w n s h =
     let c = behind_lacks (mark_at s) (mark_next w) n h in
-    let d = behind_lacks (type_at c.rest) (type_next w c.value) n c.then in
+    let d = behind_lacks (arg_type_at c.rest) (type_next w c.value) n c.then in
     let type = type_sound c.rest d.value d.rest d.first in
     record {
       property = c.value;
@@ -201,7 +201,7 @@ named_needed : (w : List EnumWidth) (n s : List ℕ) → NamedNeeds w n s → na
 unfolding named_at
 named_needed w n s h =
     goes_behind (mark_at s) (mark_next w) h.property h.at_type (mark_full h.property s h.at_type h.mark)
-    ∙ goes_behind (type_at h.at_type) (type_next w h.property) h.ty h.at_name (type_full h.at_type h.ty h.at_name h.type h.fits)
+    ∙ goes_behind (arg_type_at h.at_type) (type_next w h.property) h.ty h.at_name (type_full h.at_type h.ty h.at_name h.type h.fits)
     ∙ typed_needed w h.property h.ty n h.at_name h.needs
 
 named_exact : (w : List EnumWidth) → ItemExact NamedArg (named_at w) (StandsNamed w) strip_named (HasNamedType w) (λ n s. NamedNeeds w n s)
@@ -263,7 +263,7 @@ abbrev attr_of : List Arg → List NamedArg → AttrValue
 attr_of fixed named = record { fixed = fixed; named = named }
 
 abbrev count_next : List EnumWidth → List Arg → ℕ → List ℕ → Found AttrValue
-count_next w fixed count rest = onward (many_at (named_at w) count rest) (λ named after. Ok (attr_of fixed named, after))
+count_next w fixed count rest = onward (many_items_at (named_at w) count rest) (λ named after. Ok (attr_of fixed named, after))
 
 abbrev prolog_next : List ArgType → List EnumWidth → ℕ → List ℕ → Found AttrValue
 prolog_next params w prolog rest = cond (eqb prolog 1) (onward (fixed_at w params rest) (after_fixed w)) (Err Fails)
@@ -282,7 +282,7 @@ fixed_then : (params : List ArgType) (w : List EnumWidth) (v : AttrValue) (s q r
 fixed_then params w v s q r prolog h =
     let c = onward_ok (fixed_at w params q) (after_fixed w) (v, r) h in
     let d = behind_ok (little_at 2 c.rest) (count_next w c.value) (v, r) c.then in
-    let e = onward_ok (many_at (named_at w) d.value d.rest) (λ named after. Ok (attr_of c.value named, after)) (v, r) d.then in
+    let e = onward_ok (many_items_at (named_at w) d.value d.rest) (λ named after. Ok (attr_of c.value named, after)) (v, r) d.then in
     let fixed = fixed_sound w params c.value q c.rest c.first in
     let count = little_sound 2 d.value c.rest d.rest d.first in
     let named = many_sound (named_at w) (StandsNamed w) strip_named (HasNamedType w) (λ n s. NamedNeeds w n s) (named_exact w) d.value e.value d.rest e.rest e.first in
@@ -313,14 +313,14 @@ value_full params w v s r h typed =
     goes_behind (little_at 2 s) (prolog_next params w) 1 x.by (little_full 2 1 s x.by x.first refl)
     ∙ goes_onward (fixed_at w params x.by) (after_fixed w) v.fixed y.by (fixed_full w params v.fixed x.by y.by x.after typed.fixed)
     ∙ goes_behind (little_at 2 y.by) (count_next w v.fixed) (length v.named) z.by (little_full 2 (length v.named) y.by z.by y.after (fits_count (length v.named) typed.count))
-    ∙ goes_onward (many_at (named_at w) (length v.named) z.by) (λ named after. Ok (attr_of v.fixed named, after)) v.named r
+    ∙ goes_onward (many_items_at (named_at w) (length v.named) z.by) (λ named after. Ok (attr_of v.fixed named, after)) v.named r
     (many_full (named_at w) (StandsNamed w) strip_named (HasNamedType w) (λ n s. NamedNeeds w n s) (named_exact w) v.named z.by r z.after typed.named)
 
 after_lacks : (params : List ArgType) (w : List EnumWidth) (fixed : List Arg) (n s q : List ℕ) → strip_row (map strip_arg fixed) s ≡ Some q → HasTypes w params fixed → after_fixed w fixed q ≡ Err (Lacks n) → LaterNamedNeeds w params n s
 after_lacks params w fixed n s q stood typed h =
     let d = behind_lacks (little_at 2 q) (count_next w fixed) n h in
     let count = little_sound 2 d.value q d.rest d.first in
-    elim (onward_lacks (many_at (named_at w) d.value d.rest) (λ named after. Ok (attr_of fixed named, after)) n d.then) [
+    elim (onward_lacks (many_items_at (named_at w) d.value d.rest) (λ named after. Ok (attr_of fixed named, after)) n d.then) [
       | inl later ↦ (
         fixed,
         q,
@@ -358,7 +358,7 @@ needed_then params w n s (inl first) = stops_onward (fixed_at w params s) (after
 needed_then params w n s (inr h) =
     goes_onward (fixed_at w params s) (after_fixed w) h.0 h.1 (fixed_full w params h.0 s h.1 h.4 h.5)
     ∙ goes_behind (little_at 2 h.1) (count_next w h.0) h.2 h.3 (little_full 2 h.2 h.1 h.3 h.6 (fits_count h.2 h.7))
-    ∙ stops_onward (many_at (named_at w) h.2 h.3) (λ named after. Ok (attr_of h.0 named, after)) (Lacks n)
+    ∙ stops_onward (many_items_at (named_at w) h.2 h.3) (λ named after. Ok (attr_of h.0 named, after)) (Lacks n)
     (many_needs (named_at w) (StandsNamed w) strip_named (HasNamedType w) (λ n s. NamedNeeds w n s) (named_exact w) h.2 n h.3 h.8)
 
 value_needs : (params : List ArgType) (w : List EnumWidth) (n s : List ℕ) → AttrNeeds params w n s → value_at params w s ≡ Err (Lacks n)

@@ -11,7 +11,7 @@ use Rattle.cil_base.specs.Steps.{◌>>=◌}
 use Rattle.cil_base.specs.inner.Reading.{compressed_at}
 use Rattle.cil_base.proofs.NumberLemmas.{strip-compressed_at, compressed_at-strip, none-compressed_at, forms, stripped, strip-bytes}
 use Rattle.cil_base.proofs.StepLemmas.{split, came, mapped}
-use Rattle.attr_blob.specs.Fronts.{strip_little, strip_text, strip_null, fits_in, is_short}
+use Rattle.attr_blob.specs.Fronts.{strip_little, strip_text, strip_null, fits_in, is_short_text}
 use Rattle.attr_blob.specs.inner.Steps.{changed}
 use Rattle.attr_blob.specs.inner.Reading.{little_at, taken_at, text_at, nullable_at}
 
@@ -74,7 +74,7 @@ number_small n s r h =
 within : (n m : ℕ) → leb n m ≡ true → n ≤ m
 within n m h = grind (arith, nat_tests)
 
-taken_sound : (n : ℕ) (s q : List ℕ) → strip_number n s ≡ Some q → n ≤ length q → (strip_text (take n q) s ≡ Some (drop n q)) × (is_short (take n q) ≡ true)
+taken_sound : (n : ℕ) (s q : List ℕ) → strip_number n s ≡ Some q → n ≤ length q → (strip_text (take n q) s ≡ Some (drop n q)) × (is_short_text (take n q) ≡ true)
 taken_sound n s q h room =
     let long : length (take n q) ≡ n = length-take-le n q room in
     let parts : take n q ++ drop n q ≡ q = take-append-drop n q in (
@@ -85,13 +85,13 @@ taken_sound n s q h room =
       ap (λ m. ltb m (2 ^ 29)) long ∙ number_small n s q h,
     )
 
-pub text_sound : (s t r : List ℕ) → text_at s ≡ Some (t, r) → (strip_text t s ≡ Some r) × (is_short t ≡ true)
+pub text_sound : (s t r : List ℕ) → text_at s ≡ Some (t, r) → (strip_text t s ≡ Some r) × (is_short_text t ≡ true)
 text_sound s t r h =
     let c = came (compressed_at s) (λ x. taken_at x.0 x.1) (t, r) h in
     let n = c.by.0 in
     let q = c.by.1 in
-    split {P = (strip_text t s ≡ Some r) × (is_short t ≡ true)} (leb n (length q)) (Some (take n q, drop n q)) None (Some (t, r)) c.after
-    (λ e f. along (λ t r. (strip_text t s ≡ Some r) × (is_short t ≡ true)) (take n q) t (drop n q) r f (taken_sound n s q (compressed_at-strip s n q c.first) (within n (length q) e)))
+    split {P = (strip_text t s ≡ Some r) × (is_short_text t ≡ true)} (leb n (length q)) (Some (take n q, drop n q)) None (Some (t, r)) c.after
+    (λ e f. along (λ t r. (strip_text t s ≡ Some r) × (is_short_text t ≡ true)) (take n q) t (drop n q) r f (taken_sound n s q (compressed_at-strip s n q c.first) (within n (length q) e)))
     (λ e f. absurd (none-some (t, r) f))
 
 room : (t r : List ℕ) → leb (length t) (length (t ++ r)) ≡ true
@@ -116,7 +116,7 @@ byte_stood b s r h = stripped (b ∷ []) s r h
 -- a text, or none
 abbrev pub NullableStands : Option (List ℕ) → List ℕ → List ℕ → Type 0
 NullableStands None s r = strip_null s ≡ Some r
-NullableStands (Some t) s r = (strip_text t s ≡ Some r) × (is_short t ≡ true)
+NullableStands (Some t) s r = (strip_text t s ≡ Some r) × (is_short_text t ≡ true)
 
 pub nullable_sound : (s : List ℕ) (x : Option (List ℕ)) (r : List ℕ) → nullable_at s ≡ Some (x, r) → NullableStands x s r
 nullable_sound [] x r h = absurd (none-some (x, r) h)

@@ -1,11 +1,11 @@
 -- Arguments that need a width: reading stops at them, and at no others.
 use Rattle.std.proofs.Common.{◌≡◌, ℕ, zero, suc, inl, inr, List, Bool, true, cond, eqb, Option, Some, None, Ok, Err, refl, sym, ap, ◌∙◌}
 use Rattle.cil_base.proofs.StepLemmas.{split}
-use Rattle.attr_blob.specs.Types.{is_numeric, number_width, type_fits, enum_width}
+use Rattle.attr_blob.specs.Types.{is_numeric, number_width, arg_type_fits, enum_width}
 use Rattle.attr_blob.specs.Args.{strip_arg, has_type_level, HasType, StandsArg}
 use Rattle.attr_blob.specs.Needs.{needs_level, NeedsWidth}
 use Rattle.attr_blob.specs.inner.Steps.{Found, behind, onward}
-use Rattle.attr_blob.specs.inner.Reading.{little_at, nullable_at, type_at, number_arg, text_or, enum_of, many_at, items_arg, level_at, arg_at}
+use Rattle.attr_blob.specs.inner.Reading.{little_at, nullable_at, arg_type_at, number_arg, text_or, enum_of, many_items_at, items_arg, arg_level_at, arg_at}
 use Rattle.attr_blob.specs.declared.stop.Stop.TheVariants.{Lacks, Fails}
 use Rattle.attr_blob.specs.declared.value.EnumWidth.{EnumWidth}
 use Rattle.attr_blob.specs.declared.value.ArgType.{ArgType}
@@ -37,14 +37,14 @@ enum_lacks name (Some elem) n s h =
     (λ e f. number_lacks (((Some elem) ≡ None) × (name ≡ n)) (args.Enum name elem) elem n s f)
     (λ e f. fails_lacks {A = Arg} {P = ((Some elem) ≡ None) × (name ≡ n)} n f)
 
-level_lacks : (w : List EnumWidth) (d : ℕ) → ArgExact w d → (x : ArgType-F ArgType) (n s : List ℕ) → level_at w (arg_at w d) x s ≡ Err (Lacks n) → needs_level w d (NeedsWidth w d n) x n s
-unfolding level_at
+level_lacks : (w : List EnumWidth) (d : ℕ) → ArgExact w d → (x : ArgType-F ArgType) (n s : List ℕ) → arg_level_at w (arg_at w d) x s ≡ Err (Lacks n) → needs_level w d (NeedsWidth w d n) x n s
+unfolding arg_level_at
 level_lacks w d exact (ArgType-F.Prim elem) n s h = number_lacks ⊥ (args.Num elem) elem n s h
 level_lacks w d exact ArgType-F.Text n s h = text_lacks ⊥ args.Text args.NullText n s h
 level_lacks w d exact ArgType-F.SystemType n s h = text_lacks ⊥ args.TypeName args.NullType n s h
 level_lacks w d exact ArgType-F.Boxed n s h =
     let P = needs_level w d (NeedsWidth w d n) ArgType-F.Boxed n s in
-    let c = behind_lacks (type_at s) (λ ty rest. onward (arg_at w d ty rest) (λ arg after. Ok (args.Boxed ty arg, after))) n h in
+    let c = behind_lacks (arg_type_at s) (λ ty rest. onward (arg_at w d ty rest) (λ arg after. Ok (args.Boxed ty arg, after))) n h in
     let p = type_sound s c.value c.rest c.first in
     elim (onward_lacks (arg_at w d c.value c.rest) (λ arg after. Ok (args.Boxed c.value arg, after)) n c.then) [
       | inl m ↦ (c.value, c.rest, p.strips, p.fits, exact.lacks c.value n c.rest m)
@@ -55,38 +55,38 @@ level_lacks w d exact (ArgType-F.Array elem) n s h =
     let P = needs_level w d (NeedsWidth w d n) (ArgType-F.Array elem) n s in
     let c = behind_lacks (little_at 4 s) (λ count rest. items_arg elem (arg_at w d elem) count rest) n h in
     let p = little_sound 4 c.value s c.rest c.first in
-    split {P = needs_level w d (NeedsWidth w d n) (ArgType-F.Array elem) n s} (eqb c.value 0xffffffff) (Ok (args.NullArray elem, c.rest)) (onward (many_at (arg_at w d elem) c.value c.rest) (λ items after. Ok (args.Array elem items, after))) (Err (Lacks n)) c.then
+    split {P = needs_level w d (NeedsWidth w d n) (ArgType-F.Array elem) n s} (eqb c.value 0xffffffff) (Ok (args.NullArray elem, c.rest)) (onward (many_items_at (arg_at w d elem) c.value c.rest) (λ items after. Ok (args.Array elem items, after))) (Err (Lacks n)) c.then
     (λ e f. ok_lacks {A = Arg} {P = P} (args.NullArray elem, c.rest) (Lacks n) f)
-    (λ e f. elim (onward_lacks (many_at (arg_at w d elem) c.value c.rest) (λ items after. Ok (args.Array elem items, after)) n f) [
+    (λ e f. elim (onward_lacks (many_items_at (arg_at w d elem) c.value c.rest) (λ items after. Ok (args.Array elem items, after)) n f) [
       | inl m ↦ (c.value, c.rest, p.0, counted c.value p.1 e, many_lacks (arg_at w d elem) (StandsArg w d elem) strip_arg (HasType w d elem) (λ n s. NeedsWidth w d n elem s) (item_exact w d exact elem) c.value n c.rest m)
       | inr o ↦ ok_lacks {A = Arg} {P = P} (args.Array elem o.value, o.rest) (Lacks n) o.then
     ])
 
-level_needs : (w : List EnumWidth) (d : ℕ) → ArgExact w d → (x : ArgType-F ArgType) (n s : List ℕ) → needs_level w d (NeedsWidth w d n) x n s → level_at w (arg_at w d) x s ≡ Err (Lacks n)
-unfolding level_at
+level_needs : (w : List EnumWidth) (d : ℕ) → ArgExact w d → (x : ArgType-F ArgType) (n s : List ℕ) → needs_level w d (NeedsWidth w d n) x n s → arg_level_at w (arg_at w d) x s ≡ Err (Lacks n)
+unfolding arg_level_at
 level_needs w d exact (ArgType-F.Prim elem) n s h = absurd h
 level_needs w d exact ArgType-F.Text n s h = absurd h
 level_needs w d exact ArgType-F.SystemType n s h = absurd h
 level_needs w d exact ArgType-F.Boxed n s h =
-    goes_behind (type_at s) (λ ty rest. onward (arg_at w d ty rest) (λ arg after. Ok (args.Boxed ty arg, after))) h.0 h.1 (type_full s h.0 h.1 h.2 h.3)
+    goes_behind (arg_type_at s) (λ ty rest. onward (arg_at w d ty rest) (λ arg after. Ok (args.Boxed ty arg, after))) h.0 h.1 (type_full s h.0 h.1 h.2 h.3)
     ∙ stops_onward (arg_at w d h.0 h.1) (λ arg after. Ok (args.Boxed h.0 arg, after)) (Lacks n) (exact.needed h.0 n h.1 h.4)
 level_needs w d exact (ArgType-F.Enum name) n s h = ap (λ (o : Option ℕ). enum_of name o s) h.0 ∙ ap (λ m. Err (Lacks m)) h.1
 level_needs w d exact (ArgType-F.Array elem) n s h =
     let f = few h.0 h.3 in
     goes_behind (little_at 4 s) (λ count rest. items_arg elem (arg_at w d elem) count rest) h.0 h.1 (little_full 4 h.0 s h.1 h.2 f.0)
-    ∙ ap (λ (b : Bool). cond {A = Found Arg} b (Ok (args.NullArray elem, h.1)) (onward (many_at (arg_at w d elem) h.0 h.1) (λ items after. Ok (args.Array elem items, after)))) f.1
-    ∙ stops_onward (many_at (arg_at w d elem) h.0 h.1) (λ items after. Ok (args.Array elem items, after)) (Lacks n)
+    ∙ ap (λ (b : Bool). cond {A = Found Arg} b (Ok (args.NullArray elem, h.1)) (onward (many_items_at (arg_at w d elem) h.0 h.1) (λ items after. Ok (args.Array elem items, after)))) f.1
+    ∙ stops_onward (many_items_at (arg_at w d elem) h.0 h.1) (λ items after. Ok (args.Array elem items, after)) (Lacks n)
     (many_needs (arg_at w d elem) (StandsArg w d elem) strip_arg (HasType w d elem) (λ n s. NeedsWidth w d n elem s) (item_exact w d exact elem) h.0 n h.1 h.4)
 
 -- one level of depth more
 suc_sound : (w : List EnumWidth) (d : ℕ) → ArgExact w d → (t : ArgType) (a : Arg) (s r : List ℕ) → arg_at w (suc d) t s ≡ Ok (a, r) → StandsArg w (suc d) t a s r
 unfolding arg_at HasType
 suc_sound w d exact t a s r h =
-    split {P = StandsArg w (suc d) t a s r} (type_fits t) (level_at w (arg_at w d) (out-ArgType t) s) (Err Fails) (Ok (a, r)) h
+    split {P = StandsArg w (suc d) t a s r} (arg_type_fits t) (arg_level_at w (arg_at w d) (out-ArgType t) s) (Err Fails) (Ok (a, r)) h
     (λ e f. let p = level_sound w d exact t (out-ArgType t) a s r (sym (roll-out-ArgType t)) f in record { strips = p.strips; typed = (e, p.typed) })
     (λ e f. err_ok {A = Arg} {P = StandsArg w (suc d) t a s r} (a, r) Fails f)
 
-pub parts_of : (w : List EnumWidth) (d : ℕ) (t : ArgType) (a : Arg) → HasType w (suc d) t a → (type_fits t ≡ true) × has_type_level w (HasType w d) t (out-Arg a)
+pub parts_of : (w : List EnumWidth) (d : ℕ) (t : ArgType) (a : Arg) → HasType w (suc d) t a → (arg_type_fits t ≡ true) × has_type_level w (HasType w d) t (out-Arg a)
 unfolding HasType
 parts_of w d t a h = h
 
@@ -100,7 +100,7 @@ suc_full w d exact t a s r h =
 suc_lacks : (w : List EnumWidth) (d : ℕ) → ArgExact w d → (t : ArgType) (n s : List ℕ) → arg_at w (suc d) t s ≡ Err (Lacks n) → NeedsWidth w (suc d) n t s
 unfolding arg_at NeedsWidth
 suc_lacks w d exact t n s h =
-    split {P = NeedsWidth w (suc d) n t s} (type_fits t) (level_at w (arg_at w d) (out-ArgType t) s) (Err Fails) (Err (Lacks n)) h
+    split {P = NeedsWidth w (suc d) n t s} (arg_type_fits t) (arg_level_at w (arg_at w d) (out-ArgType t) s) (Err Fails) (Err (Lacks n)) h
     (λ e f. (e, level_lacks w d exact (out-ArgType t) n s f))
     (λ e f. fails_lacks {A = Arg} {P = NeedsWidth w (suc d) n t s} n f)
 

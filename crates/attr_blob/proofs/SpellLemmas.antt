@@ -12,8 +12,8 @@ use Rattle.cil_base.specs.Place.{number_at}
 use Rattle.cil_base.specs.Steps.{◌>>=◌}
 use Rattle.cil_base.proofs.NumberLemmas.{strip-spelled_number, strip-bytes, below}
 use Rattle.cil_base.proofs.PlaceLemmas.{number-written}
-use Rattle.attr_blob.specs.Fronts.{strip_little, strip_text, strip_row, fits_in, is_short, spelled_text}
-use Rattle.attr_blob.specs.Types.{number_width, simple_fits, fits_level, type_fits, strip_simple, strip_type_level, strip_type, spelled_simple, spelled_type_level, spelled_type}
+use Rattle.attr_blob.specs.Fronts.{strip_little, strip_text, strip_row, fits_in, is_short_text, spelled_text}
+use Rattle.attr_blob.specs.Types.{number_width, simple_fits, fits_level, arg_type_fits, strip_simple, strip_type_level, strip_type, spelled_simple, spelled_type_level, spelled_type}
 use Rattle.attr_blob.specs.Args.{strip_arg_level, strip_arg, EachItem, has_type_level, HasType}
 use Rattle.attr_blob.specs.Attrs.{arg_depth_limit, named_mark, strip_named, strip_attr, HasNamedType, HasTypes, HasAttrType}
 use Rattle.attr_blob.specs.Decoded.{attr_at}
@@ -48,7 +48,7 @@ little_back width n r h =
     ap (λ (b : Bool). cond {A = Option (List ℕ)} b (Some (drop width (bytes ++ r))) None) (and (leb width (length (bytes ++ r))) (eqb (number_at (bytes ++ r) 0 width) n) (there width bytes r long) (eq-eqb (number_at (bytes ++ r) 0 width) n read))
     ∙ ap (λ q. Some q) (dropped width bytes r long)
 
-text_back : (t r : List ℕ) → is_short t ≡ true → strip_text t (spelled_text t ++ r) ≡ Some r
+text_back : (t r : List ℕ) → is_short_text t ≡ true → strip_text t (spelled_text t ++ r) ≡ Some r
 text_back t r h =
     ap (λ (b : Bool). strip_text t (cond {A = List ℕ} b (spelled_number (length t) ++ t) [] ++ r)) h
     ∙ ap (strip_text t) (append_assoc (spelled_number (length t)) t r)
@@ -71,8 +71,8 @@ level_type_back ArgType-F.Boxed r h = refl
 level_type_back (ArgType-F.Enum name) r h = text_back name r h
 level_type_back (ArgType-F.Array elem) r h = simple_back (out-ArgType elem) r h
 
-type_back : (t : ArgType) (r : List ℕ) → type_fits t ≡ true → strip_type t (spelled_type t ++ r) ≡ Some r
-unfolding strip_type spelled_type type_fits
+type_back : (t : ArgType) (r : List ℕ) → arg_type_fits t ≡ true → strip_type t (spelled_type t ++ r) ≡ Some r
+unfolding strip_type spelled_type arg_type_fits
 type_back t r h = level_type_back (out-ArgType t) r h
 
 -- one after the other

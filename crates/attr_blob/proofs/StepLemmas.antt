@@ -7,7 +7,7 @@ use Rattle.attr_blob.specs.Fronts.{strip_row}
 use Rattle.attr_blob.specs.Args.{EachItem}
 use Rattle.attr_blob.specs.Needs.{LaterNeeds}
 use Rattle.attr_blob.specs.inner.Steps.{Found, behind, onward}
-use Rattle.attr_blob.specs.inner.Reading.{many_at}
+use Rattle.attr_blob.specs.inner.Reading.{many_items_at}
 use Rattle.attr_blob.specs.declared.stop.Stop.{Stop}
 use Rattle.attr_blob.specs.declared.stop.Stop.TheVariants.{Lacks, Fails}
 
@@ -88,11 +88,11 @@ pub record ManyStand (A : Type 0) (strip : A → List ℕ → Option (List ℕ))
   pub each : EachItem typed xs
 
 module _ {A : Type 0} (item : List ℕ → Found A) (stands : A → List ℕ → List ℕ → Type 0) (strip : A → List ℕ → Option (List ℕ)) (typed : A → Type 0) (needs : List ℕ → List ℕ → Type 0) (exact : ItemExact A item stands strip typed needs) where
-  pub many_sound : (n : ℕ) (xs : List A) (s r : List ℕ) → many_at item n s ≡ Ok (xs, r) → ManyStand A strip typed n xs s r
+  pub many_sound : (n : ℕ) (xs : List A) (s r : List ℕ) → many_items_at item n s ≡ Ok (xs, r) → ManyStand A strip typed n xs s r
   many_sound zero xs s r h = along_ok (λ (xs : List A) r. ManyStand A strip typed 0 xs s r) [] xs s r h (record { count = refl; strips = refl; each = tt })
   many_sound (suc n) xs s r h =
-      let c = onward_ok (item s) (λ x rest. onward (many_at item n rest) (λ xs after. Ok (x ∷ xs, after))) (xs, r) h in
-      let d = onward_ok (many_at item n c.rest) (λ xs after. Ok (c.value ∷ xs, after)) (xs, r) c.then in
+      let c = onward_ok (item s) (λ x rest. onward (many_items_at item n rest) (λ xs after. Ok (x ∷ xs, after))) (xs, r) h in
+      let d = onward_ok (many_items_at item n c.rest) (λ xs after. Ok (c.value ∷ xs, after)) (xs, r) c.then in
       let p = exact.parts c.value s c.rest (exact.sound c.value s c.rest c.first) in
       let m = many_sound n d.value c.rest d.rest d.first in
       along_ok (λ (xs : List A) r. ManyStand A strip typed (suc n) xs s r) (c.value ∷ d.value) xs d.rest r d.then (record {
@@ -101,27 +101,27 @@ module _ {A : Type 0} (item : List ℕ → Found A) (stands : A → List ℕ →
         each = (p.1, m.each);
       })
 
-  pub many_full : (xs : List A) (s r : List ℕ) → strip_row (map strip xs) s ≡ Some r → EachItem typed xs → many_at item (length xs) s ≡ Ok (xs, r)
+  pub many_full : (xs : List A) (s r : List ℕ) → strip_row (map strip xs) s ≡ Some r → EachItem typed xs → many_items_at item (length xs) s ≡ Ok (xs, r)
   many_full [] s r h each = ap (λ r. Ok ([], r)) (same_Some s r h)
   many_full (x ∷ xs) s r h each =
       let c = came (strip x s) (strip_row (map strip xs)) r h in
-      goes_onward (item s) (λ x rest. onward (many_at item (length xs) rest) (λ xs after. Ok (x ∷ xs, after))) x c.by (exact.full x s c.by (exact.whole x s c.by c.first each.0))
-      ∙ goes_onward (many_at item (length xs) c.by) (λ xs after. Ok (x ∷ xs, after)) xs r (many_full xs c.by r c.after each.1)
+      goes_onward (item s) (λ x rest. onward (many_items_at item (length xs) rest) (λ xs after. Ok (x ∷ xs, after))) x c.by (exact.full x s c.by (exact.whole x s c.by c.first each.0))
+      ∙ goes_onward (many_items_at item (length xs) c.by) (λ xs after. Ok (x ∷ xs, after)) xs r (many_full xs c.by r c.after each.1)
 
-  pub many_lacks : (n : ℕ) (name s : List ℕ) → many_at item n s ≡ Err (Lacks name) → LaterNeeds stands (needs name) n s
+  pub many_lacks : (n : ℕ) (name s : List ℕ) → many_items_at item n s ≡ Err (Lacks name) → LaterNeeds stands (needs name) n s
   many_lacks zero name s h = ok_lacks {A = List A} {P = ⊥} ([], s) (Lacks name) h
   many_lacks (suc n) name s h =
-      elim (onward_lacks (item s) (λ x rest. onward (many_at item n rest) (λ xs after. Ok (x ∷ xs, after))) name h) [
+      elim (onward_lacks (item s) (λ x rest. onward (many_items_at item n rest) (λ xs after. Ok (x ∷ xs, after))) name h) [
         | inl first ↦ inl (exact.lacks name s first)
-        | inr c ↦ elim (onward_lacks (many_at item n c.rest) (λ xs after. Ok (c.value ∷ xs, after)) name c.then) [
+        | inr c ↦ elim (onward_lacks (many_items_at item n c.rest) (λ xs after. Ok (c.value ∷ xs, after)) name c.then) [
           | inl later ↦ inr (c.value, c.rest, exact.sound c.value s c.rest c.first, many_lacks n name c.rest later)
           | inr d ↦ ok_lacks {A = List A} {P = LaterNeeds stands (needs name) (suc n) s} (c.value ∷ d.value, d.rest) (Lacks name) d.then
         ]
       ]
 
-  pub many_needs : (n : ℕ) (name s : List ℕ) → LaterNeeds stands (needs name) n s → many_at item n s ≡ Err (Lacks name)
+  pub many_needs : (n : ℕ) (name s : List ℕ) → LaterNeeds stands (needs name) n s → many_items_at item n s ≡ Err (Lacks name)
   many_needs zero name s h = absurd h
-  many_needs (suc n) name s (inl first) = stops_onward (item s) (λ x rest. onward (many_at item n rest) (λ xs after. Ok (x ∷ xs, after))) (Lacks name) (exact.needed name s first)
+  many_needs (suc n) name s (inl first) = stops_onward (item s) (λ x rest. onward (many_items_at item n rest) (λ xs after. Ok (x ∷ xs, after))) (Lacks name) (exact.needed name s first)
   many_needs (suc n) name s (inr later) =
-      goes_onward (item s) (λ x rest. onward (many_at item n rest) (λ xs after. Ok (x ∷ xs, after))) later.0 later.1 (exact.full later.0 s later.1 later.2)
-      ∙ stops_onward (many_at item n later.1) (λ xs after. Ok (later.0 ∷ xs, after)) (Lacks name) (many_needs n name later.1 later.3)
+      goes_onward (item s) (λ x rest. onward (many_items_at item n rest) (λ xs after. Ok (x ∷ xs, after))) later.0 later.1 (exact.full later.0 s later.1 later.2)
+      ∙ stops_onward (many_items_at item n later.1) (λ xs after. Ok (later.0 ∷ xs, after)) (Lacks name) (many_needs n name later.1 later.3)

@@ -6,9 +6,9 @@ use Rattle.cil_base.specs.Number.{strip_bytes}
 use Rattle.cil_base.specs.Steps.{◌>>=◌}
 use Rattle.cil_base.proofs.StepLemmas.{split, came, mapped}
 use Rattle.attr_blob.specs.Fronts.{strip_text}
-use Rattle.attr_blob.specs.Types.{is_numeric, simple_fits, fits_level, type_fits, strip_simple, strip_type_level, strip_type}
+use Rattle.attr_blob.specs.Types.{is_numeric, simple_fits, fits_level, arg_type_fits, strip_simple, strip_type_level, strip_type}
 use Rattle.attr_blob.specs.inner.Steps.{changed}
-use Rattle.attr_blob.specs.inner.Reading.{text_at, simple_at, element_at, type_at}
+use Rattle.attr_blob.specs.inner.Reading.{text_at, simple_at, element_at, arg_type_at}
 use Rattle.attr_blob.specs.declared.value.ArgType.{ArgType}
 use Rattle.attr_blob.specs.declared.value.ArgType.TheVariants as types
 use Rattle.attr_blob.specs.declared.value.ArgType.TheOpen.{ArgType-F}
@@ -61,14 +61,14 @@ simple_level (ArgType-F.Array elem) s h = absurd cc
 -- a type stands at the front
 pub record TypeStands (t : ArgType) (s r : List ℕ) : Type 0 where
   pub strips : strip_type t s ≡ Some r
-  pub fits : type_fits t ≡ true
+  pub fits : arg_type_fits t ≡ true
 
 element_sound : (s : List ℕ) (t : ArgType) (r : List ℕ) → element_at s ≡ Some (t, r) → SimpleStands t s r
 element_sound [] t r h = absurd (none-some (t, r) h)
 element_sound (b ∷ s) t r h = simple_sound b s t r h
 
 array_stands : (b : ℕ) (s : List ℕ) (t : ArgType) (r : List ℕ) → eqb b 0x1d ≡ true → element_at s ≡ Some (t, r) → TypeStands (types.Array t) (b ∷ s) r
-unfolding strip_type type_fits
+unfolding strip_type arg_type_fits
 array_stands b s t r e h =
     let p = element_sound s t r h in
     record {
@@ -77,11 +77,11 @@ array_stands b s t r e h =
     }
 
 simple_stands : (s : List ℕ) (t : ArgType) (r : List ℕ) → SimpleStands t s r → TypeStands t s r
-unfolding strip_type type_fits
+unfolding strip_type arg_type_fits
 simple_stands s t r p = let level = simple_level (out-ArgType t) s p.1 in record { strips = level.0 ∙ p.0; fits = level.1 }
 
-pub type_sound : (s : List ℕ) (t : ArgType) (r : List ℕ) → type_at s ≡ Some (t, r) → TypeStands t s r
-unfolding type_at
+pub type_sound : (s : List ℕ) (t : ArgType) (r : List ℕ) → arg_type_at s ≡ Some (t, r) → TypeStands t s r
+unfolding arg_type_at
 type_sound [] t r h = absurd (none-some (t, r) h)
 type_sound (b ∷ s) t r h =
     split {P = TypeStands t (b ∷ s) r} (eqb b 0x1d) (changed types.Array (element_at s)) (simple_at b s) (Some (t, r)) h
@@ -130,19 +130,19 @@ simple_full (ArgType-F.Array elem) s r h k = absurd cc
 element_front : (t : ArgType) (s r : List ℕ) → SimpleFront t s r → element_at s ≡ Some (t, r)
 element_front t s r p = ap element_at p.front ∙ p.found
 
-type_front : (t : ArgType) (s r : List ℕ) → SimpleFront t s r → type_at s ≡ Some (t, r)
-unfolding type_at
+type_front : (t : ArgType) (s r : List ℕ) → SimpleFront t s r → arg_type_at s ≡ Some (t, r)
+unfolding arg_type_at
 type_front t s r p =
-    ap type_at p.front ∙ ap (λ (v : Bool). cond {A = Option (ArgType × List ℕ)} v (changed types.Array (element_at p.rest)) (simple_at p.head p.rest)) p.other ∙ p.found
+    ap arg_type_at p.front ∙ ap (λ (v : Bool). cond {A = Option (ArgType × List ℕ)} v (changed types.Array (element_at p.rest)) (simple_at p.head p.rest)) p.other ∙ p.found
 
-array_front : (elem : ArgType) (s r : List ℕ) → simple_fits (out-ArgType elem) ≡ true → (strip_bytes (0x1d ∷ []) s >>= strip_simple (out-ArgType elem)) ≡ Some r → type_at s ≡ Some (types.Array elem, r)
-unfolding type_at
+array_front : (elem : ArgType) (s r : List ℕ) → simple_fits (out-ArgType elem) ≡ true → (strip_bytes (0x1d ∷ []) s >>= strip_simple (out-ArgType elem)) ≡ Some r → arg_type_at s ≡ Some (types.Array elem, r)
+unfolding arg_type_at
 array_front elem s r h k =
     let c = came (strip_bytes (0x1d ∷ []) s) (strip_simple (out-ArgType elem)) r k in
     let p = subst (λ t. SimpleFront t c.by r) (roll-out-ArgType elem) (simple_full (out-ArgType elem) c.by r h c.after) in
-    ap type_at (byte_stood 0x1d s c.by c.first) ∙ ap (changed types.Array) (element_front elem c.by r p)
+    ap arg_type_at (byte_stood 0x1d s c.by c.first) ∙ ap (changed types.Array) (element_front elem c.by r p)
 
-level_full : (x : ArgType-F ArgType) (s r : List ℕ) → fits_level x ≡ true → strip_type_level x s ≡ Some r → type_at s ≡ Some (roll-ArgType x, r)
+level_full : (x : ArgType-F ArgType) (s r : List ℕ) → fits_level x ≡ true → strip_type_level x s ≡ Some r → arg_type_at s ≡ Some (roll-ArgType x, r)
 level_full (ArgType-F.Array elem) s r h k = array_front elem s r h k ∙ ap (λ t. Some (t, r)) (sym (rolls-Array elem))
 level_full (ArgType-F.Prim elem) s r h k = type_front (roll-ArgType (ArgType-F.Prim elem)) s r (simple_full (ArgType-F.Prim elem) s r h k)
 level_full ArgType-F.Text s r h k = type_front (roll-ArgType ArgType-F.Text) s r (simple_full ArgType-F.Text s r refl k)
@@ -150,6 +150,6 @@ level_full ArgType-F.SystemType s r h k = type_front (roll-ArgType ArgType-F.Sys
 level_full ArgType-F.Boxed s r h k = type_front (roll-ArgType ArgType-F.Boxed) s r (simple_full ArgType-F.Boxed s r refl k)
 level_full (ArgType-F.Enum name) s r h k = type_front (roll-ArgType (ArgType-F.Enum name)) s r (simple_full (ArgType-F.Enum name) s r h k)
 
-pub type_full : (s : List ℕ) (t : ArgType) (r : List ℕ) → strip_type t s ≡ Some r → type_fits t ≡ true → type_at s ≡ Some (t, r)
-unfolding strip_type type_fits
+pub type_full : (s : List ℕ) (t : ArgType) (r : List ℕ) → strip_type t s ≡ Some r → arg_type_fits t ≡ true → arg_type_at s ≡ Some (t, r)
+unfolding strip_type arg_type_fits
 type_full s t r h k = level_full (out-ArgType t) s r k h ∙ ap (λ u. Some (u, r)) (roll-out-ArgType t)

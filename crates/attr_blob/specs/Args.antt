@@ -1,8 +1,8 @@
 -- Arguments of attributes, by the value: what a value is spelled with, and which type it has (ECMA-335 II.23.3).
 use Rattle.std.specs.Prelude.{◌≡◌, ℕ, zero, suc, ◌-◌, ◌^◌, ◌<◌, List, [], ◌∷◌, Option, Some, true, length}
 use Rattle.cil_base.specs.Steps.{◌>>=◌}
-use Rattle.attr_blob.specs.Fronts.{strip_little, strip_text, strip_null, strip_row, is_short, fits_in}
-use Rattle.attr_blob.specs.Types.{is_numeric, number_width, type_fits, strip_type, enum_width}
+use Rattle.attr_blob.specs.Fronts.{strip_little, strip_text, strip_null, strip_row, is_short_text, fits_in}
+use Rattle.attr_blob.specs.Types.{is_numeric, number_width, arg_type_fits, strip_type, enum_width}
 use Rattle.attr_blob.specs.declared.value.EnumWidth.{EnumWidth}
 use Rattle.attr_blob.specs.declared.value.ArgType.{ArgType}
 use Rattle.attr_blob.specs.declared.value.ArgType.TheVariants as types
@@ -35,9 +35,9 @@ EachItem P (x ∷ xs) = P x × EachItem P xs
 -- an argument is of the type and keeps its bounds, where its parts are told to be of theirs
 abbrev pub has_type_level : List EnumWidth → (ArgType → Arg → Type 0) → ArgType → Arg-F Arg → Type 0
 has_type_level widths part ty (Num elem bits) = (ty ≡ types.Prim elem) × (fits_in (number_width elem) bits ≡ true)
-has_type_level widths part ty (Text text) = (ty ≡ types.Text) × (is_short text ≡ true)
+has_type_level widths part ty (Text text) = (ty ≡ types.Text) × (is_short_text text ≡ true)
 has_type_level widths part ty NullText = ty ≡ types.Text
-has_type_level widths part ty (TypeName name) = (ty ≡ types.SystemType) × (is_short name ≡ true)
+has_type_level widths part ty (TypeName name) = (ty ≡ types.SystemType) × (is_short_text name ≡ true)
 has_type_level widths part ty NullType = ty ≡ types.SystemType
 has_type_level widths part ty (Boxed inner value) = (ty ≡ types.Boxed) × part inner value
 has_type_level widths part ty (Enum name elem bits) =
@@ -48,7 +48,7 @@ has_type_level widths part ty (NullArray elem) = ty ≡ types.Array elem
 -- an argument of at most that depth is of the type and keeps its bounds: one without parts has depth 1
 unfoldable pub HasType : List EnumWidth → ℕ → ArgType → Arg → Type 0
 HasType widths zero ty arg = ⊥
-HasType widths (suc depth) ty arg = (type_fits ty ≡ true) × has_type_level widths (HasType widths depth) ty (out-Arg arg)
+HasType widths (suc depth) ty arg = (arg_type_fits ty ≡ true) × has_type_level widths (HasType widths depth) ty (out-Arg arg)
 
 -- an argument of the type stands at the front of the bytes, and `rest` stays
 pub record StandsArg (widths : List EnumWidth) (depth : ℕ) (ty : ArgType) (arg : Arg) (bytes rest : List ℕ) : Type 0 where

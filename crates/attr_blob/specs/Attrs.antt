@@ -2,7 +2,7 @@
 use Rattle.std.specs.Prelude.{◌≡◌, ℕ, ◌<◌, ◌^◌, List, [], ◌∷◌, Option, Some, Bool, true, length, map, if◌then◌else◌}
 use Rattle.cil_base.specs.Number.{strip_bytes}
 use Rattle.cil_base.specs.Steps.{◌>>=◌}
-use Rattle.attr_blob.specs.Fronts.{strip_little, strip_text, strip_row, is_short}
+use Rattle.attr_blob.specs.Fronts.{strip_little, strip_text, strip_row, is_short_text}
 use Rattle.attr_blob.specs.Types.{strip_type}
 use Rattle.attr_blob.specs.Args.{strip_arg, HasType, EachItem}
 use Rattle.attr_blob.specs.declared.value.EnumWidth.{EnumWidth}
@@ -29,7 +29,7 @@ strip_attr value s =
     strip_little 2 1 s >>= strip_row (map strip_arg value.fixed) >>= strip_little 2 (length value.named) >>= strip_row (map strip_named value.named)
 
 pub record HasNamedType (widths : List EnumWidth) (named : NamedArg) : Type 0 where
-  pub name : is_short named.name ≡ true
+  pub name : is_short_text named.name ≡ true
   pub value : HasType widths arg_depth_limit named.ty named.value
 
 -- the arguments are of these types, one for one

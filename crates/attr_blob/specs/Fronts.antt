@@ -26,9 +26,9 @@ abbrev pub fits_in : ℕ → ℕ → Bool
 fits_in width n = nat_lt n (256 ^ width)
 
 -- a text that can be spelled
-abbrev pub is_short : List ℕ → Bool
-is_short text = nat_lt (length text) (2 ^ 29)
+abbrev pub is_short_text : List ℕ → Bool
+is_short_text text = nat_lt (length text) (2 ^ 29)
 
 -- a text with its length in the shortest form
 abbrev pub spelled_text : List ℕ → List ℕ
-spelled_text text = if is_short text then spelled_number (length text) ++ text else []
+spelled_text text = if is_short_text text then spelled_number (length text) ++ text else []

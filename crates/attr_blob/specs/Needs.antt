@@ -2,7 +2,7 @@
 use Rattle.std.specs.Prelude.{◌≡◌, ℕ, zero, suc, ◌⊎◌, ◌-◌, ◌^◌, ◌<◌, List, [], ◌∷◌, Some, None, Bool, true, map}
 use Rattle.cil_base.specs.Number.{strip_bytes}
 use Rattle.attr_blob.specs.Fronts.{strip_little, strip_text, strip_row}
-use Rattle.attr_blob.specs.Types.{type_fits, strip_type, enum_width}
+use Rattle.attr_blob.specs.Types.{arg_type_fits, strip_type, enum_width}
 use Rattle.attr_blob.specs.Args.{strip_arg, StandsArg}
 use Rattle.attr_blob.specs.Attrs.{arg_depth_limit, named_mark, strip_named, HasTypes, HasNamedType}
 use Rattle.attr_blob.specs.declared.value.EnumWidth.{EnumWidth}
@@ -21,7 +21,7 @@ LaterNeeds {A} stands needs (suc count) s =
 -- the next type of a boxed value, or of an array that has an element
 abbrev pub needs_level : List EnumWidth → ℕ → (ArgType → List ℕ → Type 0) → ArgType-F ArgType → List ℕ → List ℕ → Type 0
 needs_level widths depth needs (Enum enum) name s = (enum_width widths enum ≡ None) × (enum ≡ name)
-needs_level widths depth needs Boxed name s = (ty : ArgType) × (rest : List ℕ) × (strip_type ty s ≡ Some rest) × (type_fits ty ≡ true) × needs ty rest
+needs_level widths depth needs Boxed name s = (ty : ArgType) × (rest : List ℕ) × (strip_type ty s ≡ Some rest) × (arg_type_fits ty ≡ true) × needs ty rest
 needs_level widths depth needs (Array elem) name s =
     (count : ℕ) × (rest : List ℕ) × (strip_little 4 count s ≡ Some rest) × (count < 2 ^ 32 - 1) × LaterNeeds (StandsArg widths depth elem) (needs elem) count rest
 needs_level widths depth needs (Prim elem) name s = ⊥
@@ -31,7 +31,7 @@ needs_level widths depth needs SystemType name s = ⊥
 -- an argument of the type needs the width of the enum of that name
 unfoldable pub NeedsWidth : List EnumWidth → ℕ → List ℕ → ArgType → List ℕ → Type 0
 NeedsWidth widths zero name ty s = ⊥
-NeedsWidth widths (suc depth) name ty s = (type_fits ty ≡ true) × needs_level widths depth (NeedsWidth widths depth name) (out-ArgType ty) name s
+NeedsWidth widths (suc depth) name ty s = (arg_type_fits ty ≡ true) × needs_level widths depth (NeedsWidth widths depth name) (out-ArgType ty) name s
 
 -- one of the fixed arguments does
 abbrev pub FixedNeeds : List EnumWidth → List ℕ → List ArgType → List ℕ → Type 0
@@ -61,7 +61,7 @@ pub record NamedNeeds (widths : List EnumWidth) (name : List ℕ) (s : List ℕ)
   pub at_name : List ℕ
   pub mark : strip_bytes (named_mark property ∷ []) s ≡ Some at_type
   pub type : strip_type ty at_type ≡ Some at_name
-  pub fits : type_fits ty ≡ true
+  pub fits : arg_type_fits ty ≡ true
   pub needs :
       lacks_level widths name (out-ArgType ty)
       ⊎ ((own : List ℕ) × (rest : List ℕ) × (strip_text own at_name ≡ Some rest) × NeedsWidth widths arg_depth_limit name ty rest)

@@ -3,7 +3,7 @@ use Rattle.std.specs.Prelude.{ℕ, ◌==◌, ◌&&◌, ◌||◌, List, [], ◌�
 use Rattle.std.specs.Cmp.Lexicographic.{pointwise}
 use Rattle.cil_base.specs.Number.{strip_bytes}
 use Rattle.cil_base.specs.Steps.{◌>>=◌}
-use Rattle.attr_blob.specs.Fronts.{strip_text, is_short, spelled_text}
+use Rattle.attr_blob.specs.Fronts.{strip_text, is_short_text, spelled_text}
 use Rattle.attr_blob.specs.declared.value.EnumWidth.{EnumWidth}
 use Rattle.attr_blob.specs.declared.value.ArgType.{ArgType}
 use Rattle.attr_blob.specs.declared.value.ArgType.TheOpen.{ArgType-F, Prim, Text, SystemType, Boxed, Enum, Array}
@@ -27,7 +27,7 @@ simple_fits (Prim elem) = is_numeric elem
 simple_fits Text = true
 simple_fits SystemType = true
 simple_fits Boxed = true
-simple_fits (Enum name) = is_short name
+simple_fits (Enum name) = is_short_text name
 simple_fits (Array elem) = false
 
 abbrev pub fits_level : ArgType-F ArgType → Bool
@@ -36,11 +36,11 @@ fits_level (Prim elem) = is_numeric elem
 fits_level Text = true
 fits_level SystemType = true
 fits_level Boxed = true
-fits_level (Enum name) = is_short name
+fits_level (Enum name) = is_short_text name
 
 -- a type that can be spelled: the elements of an array are no arrays
-unfoldable pub type_fits : ArgType → Bool
-type_fits ty = fits_level (out-ArgType ty)
+unfoldable pub arg_type_fits : ArgType → Bool
+arg_type_fits ty = fits_level (out-ArgType ty)
 
 -- after a type that is no array
 abbrev pub strip_simple : ArgType-F ArgType → List ℕ → Option (List ℕ)

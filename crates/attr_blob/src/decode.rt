@@ -1,7 +1,7 @@
 ghost use Rattle.std.specs.Prelude.{◌≡◌, IfOk};
 ghost use Rattle.attr_blob.specs.Decoded.{attr_at};
-ghost use Rattle.attr_blob.specs.inner.Steps.{FoundAt, StandsAt};
-ghost use Rattle.attr_blob.specs.inner.Reading.{after_fixed, fixed_at, many_at, mark_at, named_at, named_value, value_at};
+ghost use Rattle.attr_blob.specs.inner.Steps.{FoundAt, StandsAtFront};
+ghost use Rattle.attr_blob.specs.inner.Reading.{after_fixed, fixed_at, many_items_at, mark_at, named_at, named_value, value_at};
 
 use crate::read_arg::{Found, read_arg};
 use crate::read_leaf::{read_little, read_text};
@@ -106,7 +106,7 @@ fn read_all_named<'a>(
     count: u64,
     bytes: &'a [u8],
 ) -> Found<'a, List<NamedArg>>
-    ensures { IfOk result (λ found. FoundAt found (many_at (named_at widths.now) count bytes.now)) }
+    ensures { IfOk result (λ found. FoundAt found (many_items_at (named_at widths.now) count bytes.now)) }
 {
     let mut named = List::new(alloc);
     let mut rest = bytes;
@@ -124,7 +124,7 @@ fn read_all_named<'a>(
 
 /// Whether a property is named, and not a field.
 fn read_mark(bytes: &[u8]) -> Option<(bool, &[u8])>
-    ensures { StandsAt result (mark_at bytes.now) }
+    ensures { StandsAtFront result (mark_at bytes.now) }
 {
     match bytes {
         [0x53, rest @ ..] => Some((false, rest)),

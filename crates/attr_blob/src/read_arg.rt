@@ -1,12 +1,12 @@
 ghost use Rattle.std.specs.Prelude.{◌≡◌, IfOk};
 ghost use Rattle.attr_blob.specs.declared.value.ArgType.TheViews.{out-ArgType};
 ghost use Rattle.attr_blob.specs.Types.{enum_width};
-ghost use Rattle.attr_blob.specs.inner.Steps.{FoundAt, StandsAt};
-ghost use Rattle.attr_blob.specs.inner.Reading.{arg_at, array_arg, boxed_arg, enum_of, items_arg, level_at, many_at, nullable_at, text_arg};
+ghost use Rattle.attr_blob.specs.inner.Steps.{FoundAt, StandsAtFront};
+ghost use Rattle.attr_blob.specs.inner.Reading.{arg_at, array_arg, boxed_arg, enum_of, items_arg, arg_level_at, many_items_at, nullable_at, text_arg};
 
 use crate::read_leaf::{Front, read_little, read_text};
 use crate::stop::Stop;
-use crate::types::{enum_width, is_numeric, number_width, read_type, type_fits};
+use crate::types::{arg_type_fits, enum_width, is_numeric, number_width, read_type};
 use crate::value::{Arg, ArgType, EnumWidth};
 use cil_base::{Boxed, Bytes, List, NoMemory};
 use std::alloc::Global;
@@ -22,7 +22,7 @@ const NULL_COUNT: u64 = 0xffff_ffff;
 
 /// The text, or none.
 fn read_nullable(alloc: Global, bytes: &[u8]) -> Front<'_, Option<Bytes>>
-    ensures { IfOk result (λ found. StandsAt found (nullable_at bytes.now)) }
+    ensures { IfOk result (λ found. StandsAtFront found (nullable_at bytes.now)) }
 {
     match bytes {
         [head, rest @ ..] => {
@@ -90,7 +90,7 @@ pub(crate) fn read_arg<'a>(
 ) -> Found<'a, Arg>
     ensures { IfOk result (λ found. FoundAt found (arg_at widths.now depth ty.now bytes.now)) }
 {
-    if depth == 0 || !type_fits(ty) {
+    if depth == 0 || !arg_type_fits(ty) {
         return Ok(Err(Stop::Fails));
     }
     read_level(alloc, widths, ty, bytes, depth - 1)
@@ -98,7 +98,7 @@ pub(crate) fn read_arg<'a>(
 
 /// The argument of that type, with parts of at most that depth.
 #[cycle(read)]
-#[tactic(auto, unfolding(crate::specs::inner::Reading::level_at))]
+#[tactic(auto, unfolding(crate::specs::inner::Reading::arg_level_at))]
 fn read_level<'a>(
     alloc: Global,
     widths: &[EnumWidth],
@@ -106,7 +106,7 @@ fn read_level<'a>(
     bytes: &'a [u8],
     depth: u32,
 ) -> Found<'a, Arg>
-    ensures { IfOk result (λ found. FoundAt found (level_at widths.now (arg_at widths.now depth) (out-ArgType ty.now) bytes.now)) }
+    ensures { IfOk result (λ found. FoundAt found (arg_level_at widths.now (arg_at widths.now depth) (out-ArgType ty.now) bytes.now)) }
 {
     match ty {
         ArgType::Prim(elem) => match read_little(bytes, number_width(*elem)) {
@@ -172,7 +172,7 @@ fn read_items<'a>(
     bytes: &'a [u8],
     depth: u32,
 ) -> Found<'a, List<Arg>>
-    ensures { IfOk result (λ found. FoundAt found (many_at (arg_at widths.now depth elem.now) count bytes.now)) }
+    ensures { IfOk result (λ found. FoundAt found (many_items_at (arg_at widths.now depth elem.now) count bytes.now)) }
 {
     let mut items = List::new(alloc);
     let mut rest = bytes;

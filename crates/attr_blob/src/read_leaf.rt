@@ -1,6 +1,6 @@
 ghost use Rattle.std.specs.Prelude.{◌≡◌, ◌≤◌, IfOk, length};
 ghost use Rattle.cil_base.specs.inner.Reading.{compressed_at};
-ghost use Rattle.attr_blob.specs.inner.Steps.{StandsAt};
+ghost use Rattle.attr_blob.specs.inner.Steps.{StandsAtFront};
 ghost use Rattle.attr_blob.specs.inner.Reading.{little_at, text_at};
 
 use cil_base::{Bytes, List, NoMemory, number_at, read_compressed};
@@ -12,7 +12,7 @@ pub(crate) type Front<'a, T> = Result<Option<(T, &'a [u8])>, NoMemory>;
 /// The number in so many bytes, the lowest byte first.
 pub(crate) fn read_little(bytes: &[u8], width: usize) -> Option<(u64, &[u8])>
     requires { (1 ≤ width) × (width ≤ 8) }
-    ensures { StandsAt result (little_at width bytes.now) }
+    ensures { StandsAtFront result (little_at width bytes.now) }
 {
     if bytes.len() < width {
         return None;
@@ -23,7 +23,7 @@ pub(crate) fn read_little(bytes: &[u8], width: usize) -> Option<(u64, &[u8])>
 /// The compressed number.
 #[tactic(auto, using(crate::proofs::Leaves::number_found, crate::proofs::Leaves::number_missing))]
 fn read_number(bytes: &[u8]) -> Option<(u32, &[u8])>
-    ensures { StandsAt result (compressed_at bytes.now) }
+    ensures { StandsAtFront result (compressed_at bytes.now) }
 {
     match read_compressed(bytes) {
         Some((number, len)) => Some((number, &bytes[len..])),
@@ -33,7 +33,7 @@ fn read_number(bytes: &[u8]) -> Option<(u32, &[u8])>
 
 /// The text: its length and as many bytes (ECMA-335 II.23.3).
 pub(crate) fn read_text(alloc: Global, bytes: &[u8]) -> Front<'_, Bytes>
-    ensures { IfOk result (λ found. StandsAt found (text_at bytes.now)) }
+    ensures { IfOk result (λ found. StandsAtFront found (text_at bytes.now)) }
 {
     let Some((len, rest)) = read_number(bytes) else {
         return Ok(None);

@@ -1,8 +1,8 @@
 ghost use Rattle.std.specs.Prelude.{◌≡◌, ◌≤◌, ◌∷◌, IfOk};
 ghost use Rattle.attr_blob.specs.declared.value.ArgType.TheViews.{out-ArgType};
-ghost use Rattle.attr_blob.specs.Types.{enum_width, is_numeric, number_width, simple_fits, type_fits};
-ghost use Rattle.attr_blob.specs.inner.Steps.{StandsAt};
-ghost use Rattle.attr_blob.specs.inner.Reading.{element_at, lacking, simple_at, type_at};
+ghost use Rattle.attr_blob.specs.Types.{enum_width, is_numeric, number_width, simple_fits, arg_type_fits};
+ghost use Rattle.attr_blob.specs.inner.Steps.{StandsAtFront};
+ghost use Rattle.attr_blob.specs.inner.Reading.{element_at, lacking, simple_at, arg_type_at};
 
 use crate::read_leaf::{Front, read_text};
 use crate::value::{ArgType, EnumWidth};
@@ -54,9 +54,9 @@ fn simple_fits(ty: &ArgType) -> bool
 }
 
 /// Whether a type can be spelled.
-#[tactic(auto, unfolding(crate::specs::Types::type_fits))]
-pub(crate) fn type_fits(ty: &ArgType) -> bool
-    ensures { result ≡ type_fits ty.now }
+#[tactic(auto, unfolding(crate::specs::Types::arg_type_fits))]
+pub(crate) fn arg_type_fits(ty: &ArgType) -> bool
+    ensures { result ≡ arg_type_fits ty.now }
 {
     match ty {
         ArgType::Array(elem) => simple_fits(elem.get()),
@@ -89,7 +89,7 @@ pub(crate) fn lacking(widths: &[EnumWidth], ty: &ArgType) -> Result<Option<Bytes
 }
 
 fn read_enum(alloc: Global, bytes: &[u8]) -> Front<'_, ArgType>
-    ensures { IfOk result (λ found. StandsAt found (simple_at 0x55 bytes.now)) }
+    ensures { IfOk result (λ found. StandsAtFront found (simple_at 0x55 bytes.now)) }
 {
     match read_text(alloc, bytes)? {
         Some((name, rest)) => Ok(Some((ArgType::Enum(name), rest))),
@@ -99,7 +99,7 @@ fn read_enum(alloc: Global, bytes: &[u8]) -> Front<'_, ArgType>
 
 /// A type that is no array, by its first byte.
 fn read_simple(alloc: Global, head: u8, rest: &[u8]) -> Front<'_, ArgType>
-    ensures { IfOk result (λ found. StandsAt found (simple_at head rest.now)) }
+    ensures { IfOk result (λ found. StandsAtFront found (simple_at head rest.now)) }
 {
     if is_numeric(head) {
         return Ok(Some((ArgType::Prim(head), rest)));
@@ -114,7 +114,7 @@ fn read_simple(alloc: Global, head: u8, rest: &[u8]) -> Front<'_, ArgType>
 }
 
 fn read_element(alloc: Global, bytes: &[u8]) -> Front<'_, ArgType>
-    ensures { IfOk result (λ found. StandsAt found (element_at bytes.now)) }
+    ensures { IfOk result (λ found. StandsAtFront found (element_at bytes.now)) }
 {
     match bytes {
         [head, rest @ ..] => read_simple(alloc, *head, rest),
@@ -122,9 +122,9 @@ fn read_element(alloc: Global, bytes: &[u8]) -> Front<'_, ArgType>
     }
 }
 
-#[tactic(auto, unfolding(crate::specs::inner::Reading::type_at))]
+#[tactic(auto, unfolding(crate::specs::inner::Reading::arg_type_at))]
 fn read_array(alloc: Global, bytes: &[u8]) -> Front<'_, ArgType>
-    ensures { IfOk result (λ found. StandsAt found (type_at (0x1d ∷ bytes.now))) }
+    ensures { IfOk result (λ found. StandsAtFront found (arg_type_at (0x1d ∷ bytes.now))) }
 {
     match read_element(alloc, bytes)? {
         Some((elem, rest)) => Ok(Some((ArgType::Array(Boxed::new(alloc, elem)?), rest))),
@@ -133,9 +133,9 @@ fn read_array(alloc: Global, bytes: &[u8]) -> Front<'_, ArgType>
 }
 
 /// The type of an argument (ECMA-335 II.23.3).
-#[tactic(auto, unfolding(crate::specs::inner::Reading::type_at))]
+#[tactic(auto, unfolding(crate::specs::inner::Reading::arg_type_at))]
 pub(crate) fn read_type(alloc: Global, bytes: &[u8]) -> Front<'_, ArgType>
-    ensures { IfOk result (λ found. StandsAt found (type_at bytes.now)) }
+    ensures { IfOk result (λ found. StandsAtFront found (arg_type_at bytes.now)) }
 {
     match bytes {
         [SZARRAY, rest @ ..] => read_array(alloc, rest),

@@ -4,7 +4,7 @@ use Rattle.cil_base.specs.Place.{number_at}
 use Rattle.cil_base.specs.Steps.{◌>>=◌}
 use Rattle.cil_base.specs.inner.Reading.{compressed_at}
 use Rattle.attr_blob.specs.Fronts.{fits_in}
-use Rattle.attr_blob.specs.Types.{is_numeric, number_width, type_fits, enum_width}
+use Rattle.attr_blob.specs.Types.{is_numeric, number_width, arg_type_fits, enum_width}
 use Rattle.attr_blob.specs.Attrs.{arg_depth_limit}
 use Rattle.attr_blob.specs.inner.Steps.{Found, behind, onward, changed}
 use Rattle.attr_blob.specs.declared.stop.Stop.TheVariants.{Lacks, Fails}
@@ -43,9 +43,9 @@ abbrev pub element_at : List ℕ → Option (ArgType × List ℕ)
 element_at [] = None
 element_at (b ∷ s) = simple_at b s
 
-unfoldable pub type_at : List ℕ → Option (ArgType × List ℕ)
-type_at [] = None
-type_at (b ∷ s) = if b == 0x1d then changed types.Array (element_at s) else simple_at b s
+unfoldable pub arg_type_at : List ℕ → Option (ArgType × List ℕ)
+arg_type_at [] = None
+arg_type_at (b ∷ s) = if b == 0x1d then changed types.Array (element_at s) else simple_at b s
 
 -- a number of the element type
 abbrev pub number_arg : (ℕ → Arg) → ℕ → List ℕ → Found Arg
@@ -68,12 +68,12 @@ enum_of name None s = Err (Lacks name)
 enum_of name (Some elem) s = if is_numeric elem then number_arg (args.Enum name elem) elem s else Err Fails
 
 abbrev pub boxed_arg : (ArgType → List ℕ → Found Arg) → List ℕ → Found Arg
-boxed_arg item s = behind (type_at s) (λ ty rest. onward (item ty rest) (λ arg after. Ok (args.Boxed ty arg, after)))
+boxed_arg item s = behind (arg_type_at s) (λ ty rest. onward (item ty rest) (λ arg after. Ok (args.Boxed ty arg, after)))
 
 -- so many items
-abbrev pub many_at : {A : Type 0} → (List ℕ → Found A) → ℕ → List ℕ → Found (List A)
-many_at item zero s = Ok ([], s)
-many_at item (suc count) s = onward (item s) (λ x rest. onward (many_at item count rest) (λ xs after. Ok (x ∷ xs, after)))
+abbrev pub many_items_at : {A : Type 0} → (List ℕ → Found A) → ℕ → List ℕ → Found (List A)
+many_items_at item zero s = Ok ([], s)
+many_items_at item (suc count) s = onward (item s) (λ x rest. onward (many_items_at item count rest) (λ xs after. Ok (x ∷ xs, after)))
 
 -- items with others before them
 abbrev pub with_before : {A : Type 0} → List A → Found (List A) → Found (List A)
@@ -82,23 +82,23 @@ with_before {A} before found = onward {A = List A} {B = List A} found (λ xs aft
 abbrev pub items_arg : ArgType → (List ℕ → Found Arg) → ℕ → List ℕ → Found Arg
 items_arg elem item count s =
     if count == 0xffffffff then Ok (args.NullArray elem, s)
-    else onward (many_at item count s) (λ items after. Ok (args.Array elem items, after))
+    else onward (many_items_at item count s) (λ items after. Ok (args.Array elem items, after))
 
 abbrev pub array_arg : ArgType → (List ℕ → Found Arg) → List ℕ → Found Arg
 array_arg elem item s = behind (little_at 4 s) (λ count rest. items_arg elem item count rest)
 
-unfoldable pub level_at : List EnumWidth → (ArgType → List ℕ → Found Arg) → ArgType-F ArgType → List ℕ → Found Arg
-level_at widths item (Prim elem) s = number_arg (args.Num elem) elem s
-level_at widths item Text s = text_arg args.Text args.NullText s
-level_at widths item SystemType s = text_arg args.TypeName args.NullType s
-level_at widths item Boxed s = boxed_arg item s
-level_at widths item (Enum name) s = enum_of name (enum_width widths name) s
-level_at widths item (Array elem) s = array_arg elem (item elem) s
+unfoldable pub arg_level_at : List EnumWidth → (ArgType → List ℕ → Found Arg) → ArgType-F ArgType → List ℕ → Found Arg
+arg_level_at widths item (Prim elem) s = number_arg (args.Num elem) elem s
+arg_level_at widths item Text s = text_arg args.Text args.NullText s
+arg_level_at widths item SystemType s = text_arg args.TypeName args.NullType s
+arg_level_at widths item Boxed s = boxed_arg item s
+arg_level_at widths item (Enum name) s = enum_of name (enum_width widths name) s
+arg_level_at widths item (Array elem) s = array_arg elem (item elem) s
 
 -- an argument of at most that depth
 unfoldable pub arg_at : List EnumWidth → ℕ → ArgType → List ℕ → Found Arg
 arg_at widths zero ty s = Err Fails
-arg_at widths (suc depth) ty s = if type_fits ty then level_at widths (arg_at widths depth) (out-ArgType ty) s else Err Fails
+arg_at widths (suc depth) ty s = if arg_type_fits ty then arg_level_at widths (arg_at widths depth) (out-ArgType ty) s else Err Fails
 
 -- whether the byte is PROPERTY, or FIELD
 abbrev pub mark_at : List ℕ → Option (Bool × List ℕ)
@@ -133,7 +133,7 @@ named_typed widths property ty None s = named_value widths property ty s
 
 unfoldable pub named_at : List EnumWidth → List ℕ → Found NamedArg
 named_at widths s =
-    behind (mark_at s) (λ property rest. behind (type_at rest) (λ ty after. named_typed widths property ty (lacking widths ty) after))
+    behind (mark_at s) (λ property rest. behind (arg_type_at rest) (λ ty after. named_typed widths property ty (lacking widths ty) after))
 
 -- the fixed arguments
 abbrev pub fixed_at : List EnumWidth → List ArgType → List ℕ → Found (List Arg)
@@ -143,7 +143,7 @@ fixed_at widths (ty ∷ types) s =
 
 abbrev pub after_fixed : List EnumWidth → List Arg → List ℕ → Found AttrValue
 after_fixed widths fixed s =
-    behind (little_at 2 s) (λ count rest. onward (many_at (named_at widths) count rest) (λ named after.
+    behind (little_at 2 s) (λ count rest. onward (many_items_at (named_at widths) count rest) (λ named after.
     Ok (record { fixed = fixed; named = named }, after)))
 
 unfoldable pub value_at : List ArgType → List EnumWidth → List ℕ → Found AttrValue

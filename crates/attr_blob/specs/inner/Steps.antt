@@ -23,9 +23,9 @@ abbrev pub changed : {A B : Type 0} → (A → B) → Option (A × List ℕ) →
 changed {A} {B} f found = option_map {T = A × List ℕ} {U = B × List ℕ} (λ x. (f x.0, x.1)) found
 
 -- the readers' answers, with the bytes that are left
-abbrev pub StandsAt : {A : Type 0} → Option (A × Bor (List ℕ)) → Option (A × List ℕ) → Type 0
-StandsAt None expected = expected ≡ None
-StandsAt (Some x) expected = expected ≡ Some (x.0, x.1.now)
+abbrev pub StandsAtFront : {A : Type 0} → Option (A × Bor (List ℕ)) → Option (A × List ℕ) → Type 0
+StandsAtFront None expected = expected ≡ None
+StandsAtFront (Some x) expected = expected ≡ Some (x.0, x.1.now)
 
 abbrev pub FoundAt : {A : Type 0} → Result (A × Bor (List ℕ)) Stop → Found A → Type 0
 FoundAt (Err stop) expected = expected ≡ Err stop

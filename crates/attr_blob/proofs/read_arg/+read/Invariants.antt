@@ -1,9 +1,9 @@
 use Rattle.std.proofs.Common.{◌≡◌, ◌+◌, ◌-◌, ◌*◌}
-use Rattle.attr_blob.specs.inner.Reading.{arg_at, many_at, with_before}
+use Rattle.attr_blob.specs.inner.Reading.{arg_at, many_items_at, with_before}
 use Rattle.attr_blob.proofs.read_arg.+read.Given as goal
 
 abbrev pub invariant-read_items-loop-index : goal.invariant-read_items-loop-index
-invariant-read_items-loop-index l = with_before l.items (many_at (arg_at l.widths l.depth l.elem) (l.count - l.index) l.rest) ≡ many_at (arg_at l.widths l.depth l.elem) l.count l.initial.rest
+invariant-read_items-loop-index l = with_before l.items (many_items_at (arg_at l.widths l.depth l.elem) (l.count - l.index) l.rest) ≡ many_items_at (arg_at l.widths l.depth l.elem) l.count l.initial.rest
 
 abbrev pub decreases-read_arg : goal.decreases-read_arg
 decreases-read_arg l = 10 * l.depth
