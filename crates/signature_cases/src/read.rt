@@ -46,13 +46,19 @@ pub(crate) fn named(alloc: Global, line: &str) -> Result<Bytes, NoMemory> {
 
 /// What is shown of a signature with other tokens.
 pub(crate) fn replaced(alloc: Global, line: &str) -> Result<Bytes, NoMemory> {
-    let Some(sig) = sig(alloc, word(line, 1), word(line, 2))? else {
-        return List::from_slice(alloc, b"none");
-    };
+    match sig(alloc, word(line, 1), word(line, 2))? {
+        Some(sig) => with_others(alloc, &sig, line),
+        None => List::from_slice(alloc, b"none"),
+    }
+}
+
+/// The same of this signature, with the tokens of the line.
+fn with_others(alloc: Global, sig: &Sig, line: &str) -> Result<Bytes, NoMemory> {
     let tokens = tokens_from(alloc, line, 3)?;
-    let own = sig_tokens(alloc, &sig)?;
+    let own = sig_tokens(alloc, sig)?;
     if tokens.len() == own.len() && all_name_types(tokens.as_slice()) {
-        shown(alloc, &with_tokens(alloc, &sig, &tokens)?)
+        let new = with_tokens(alloc, sig, &tokens)?;
+        shown(alloc, &new)
     } else {
         List::from_slice(alloc, b"refused")
     }
@@ -72,17 +78,20 @@ fn all_name_types(tokens: &[Token]) -> bool
 
 /// Whether two signatures are one.
 pub(crate) fn compared(alloc: Global, line: &str) -> Result<Bytes, NoMemory> {
-    let a = sig(alloc, word(line, 1), word(line, 2))?;
-    let b = sig(alloc, word(line, 3), word(line, 4))?;
-    match (a, b) {
-        (Some(a), Some(b)) => {
-            if are_one(&a, &b) {
-                List::from_slice(alloc, b"same")
-            } else {
-                List::from_slice(alloc, b"other")
-            }
+    match sig(alloc, word(line, 1), word(line, 2))? {
+        Some(sig) => compared_with(alloc, &sig, line),
+        None => List::from_slice(alloc, b"none"),
+    }
+}
+
+/// Whether this signature and the second of the line are one.
+fn compared_with(alloc: Global, a: &Sig, line: &str) -> Result<Bytes, NoMemory> {
+    match sig(alloc, word(line, 3), word(line, 4))? {
+        Some(b) => {
+            let text: &[u8] = if are_one(a, &b) { b"same" } else { b"other" };
+            List::from_slice(alloc, text)
         }
-        _ => List::from_slice(alloc, b"none"),
+        None => List::from_slice(alloc, b"none"),
     }
 }
 
