@@ -5,8 +5,9 @@ use crate::hex::add_hex;
 use cil_base::{Bytes, List, NoMemory};
 use std::alloc::Global;
 
-/// The full name of an assembly: `NAME, Version=A.B.C.D, Culture=X, PublicKeyToken=H`, with `neutral` for an empty culture,
-/// `null` for an empty token, and else the token in lower-case hex. Name and culture stand as they are (ECMA-335 II.6.2.1.3).
+/// The full name of an assembly: `NAME, Version=A.B.C.D, Culture=X, PublicKeyToken=H`, with `neutral` for an empty
+/// culture, `null` for an empty token, and else the token in lower-case hex. Name and culture stand as they are
+/// (ECMA-335 II.6.2.1.3).
 pub fn assembly_text(
     alloc: Global,
     name: &[u8],

@@ -5,8 +5,8 @@ use cil_base::{Bytes, List, NoMemory};
 use std::alloc::Global;
 use uuid::Uuid;
 
-/// A GUID as it is stored, in lower-case hex: 8-4-4-4-12 digits. Its first three fields have their lowest byte first in the
-/// file and their highest first in the text (ECMA-335 II.24.2.5).
+/// A GUID as it is stored, in lower-case hex: 8-4-4-4-12 digits. Its first three fields have their lowest byte first in
+/// the file and their highest first in the text (ECMA-335 II.24.2.5).
 pub fn guid_text(alloc: Global, guid: [u8; 16]) -> Result<Bytes, NoMemory>
     ensures { IfOk result (λ text. text ≡ guid_text guid) }
 {

@@ -3,7 +3,8 @@ ghost use Rattle.asm_names.specs.KeyToken.{key_token};
 
 use sha1::Sha1;
 
-/// The token of a public key: the last eight bytes of its SHA-1 digest, the last one first (ECMA-335 II.6.3). Takes no memory.
+/// The token of a public key: the last eight bytes of its SHA-1 digest, the last one first (ECMA-335 II.6.3). Takes no
+/// memory.
 pub fn public_key_token(key: &[u8]) -> [u8; 8]
     ensures { result ≡ key_token key.now }
 {

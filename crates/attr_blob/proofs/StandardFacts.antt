@@ -1,5 +1,5 @@
 -- Worked values, so that a wrong width, mark or length in a definition does not check: ECMA-335 II.23.3, II.23.1.16.
-use Rattle.std.proofs.Common.{◌≡◌, List, [], ◌∷◌, ◌++◌, codes, map, Some, None, true, false, refl}
+use Rattle.std.proofs.Common.{◌≡◌, [], ◌∷◌, ◌++◌, codes, map, Some, true, false, refl}
 use Rattle.cil_base.specs.Number.{strip_number}
 use Rattle.attr_blob.specs.Fronts.{strip_text, strip_null, strip_row}
 use Rattle.attr_blob.specs.Types.{is_numeric, number_width}

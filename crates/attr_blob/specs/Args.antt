@@ -7,7 +7,8 @@ use Rattle.attr_blob.specs.declared.value.EnumWidth.{EnumWidth}
 use Rattle.attr_blob.specs.declared.value.ArgType.{ArgType}
 use Rattle.attr_blob.specs.declared.value.ArgType.TheVariants as types
 use Rattle.attr_blob.specs.declared.value.Arg.{Arg}
-use Rattle.attr_blob.specs.declared.value.Arg.TheOpen.{Arg-F, Num, Text, NullText, TypeName, NullType, Boxed, Enum, Array, NullArray}
+use Rattle.attr_blob.specs.declared.value.Arg.TheOpen.{Arg-F, Num, Text, NullText, TypeName, NullType, Boxed, Enum}
+use Rattle.attr_blob.specs.declared.value.Arg.TheOpen.{Array, NullArray}
 use Rattle.attr_blob.specs.declared.value.Arg.TheViews.{out-Arg}
 use Rattle.attr_blob.specs.declared.value.Arg.TheFolds.{fold-Arg}
 
@@ -41,16 +42,20 @@ has_type_level widths part ty (TypeName name) = (ty ≡ types.SystemType) × (is
 has_type_level widths part ty NullType = ty ≡ types.SystemType
 has_type_level widths part ty (Boxed inner value) = (ty ≡ types.Boxed) × part inner value
 has_type_level widths part ty (Enum name elem bits) =
-    (ty ≡ types.Enum name) × (enum_width widths name ≡ Some elem) × (is_numeric elem ≡ true) × (fits_in (number_width elem) bits ≡ true)
-has_type_level widths part ty (Array elem items) = (ty ≡ types.Array elem) × (length items < 2 ^ 32 - 1) × EachItem (part elem) items
+    (ty ≡ types.Enum name) × (enum_width widths name ≡ Some elem)
+    × (is_numeric elem ≡ true) × (fits_in (number_width elem) bits ≡ true)
+has_type_level widths part ty (Array elem items) =
+    (ty ≡ types.Array elem) × (length items < 2 ^ 32 - 1) × EachItem (part elem) items
 has_type_level widths part ty (NullArray elem) = ty ≡ types.Array elem
 
 -- an argument of at most that depth is of the type and keeps its bounds: one without parts has depth 1
 unfoldable pub HasType : List EnumWidth → ℕ → ArgType → Arg → Type 0
 HasType widths zero ty arg = ⊥
-HasType widths (suc depth) ty arg = (arg_type_fits ty ≡ true) × has_type_level widths (HasType widths depth) ty (out-Arg arg)
+HasType widths (suc depth) ty arg =
+    (arg_type_fits ty ≡ true) × has_type_level widths (HasType widths depth) ty (out-Arg arg)
 
 -- an argument of the type stands at the front of the bytes, and `rest` stays
-pub record StandsArg (widths : List EnumWidth) (depth : ℕ) (ty : ArgType) (arg : Arg) (bytes rest : List ℕ) : Type 0 where
+pub record StandsArg (widths : List EnumWidth) (depth : ℕ) (ty : ArgType) (arg : Arg) (bytes rest : List ℕ)
+    : Type 0 where
   pub strips : strip_arg arg bytes ≡ Some rest
   pub typed : HasType widths depth ty arg

@@ -21,12 +21,15 @@ named_mark property = if property then 0x54 else 0x53
 
 -- after a named argument: its mark, its type, its name and its value
 abbrev pub strip_named : NamedArg → List ℕ → Option (List ℕ)
-strip_named named s = strip_bytes (named_mark named.property ∷ []) s >>= strip_type named.ty >>= strip_text named.name >>= strip_arg named.value
+strip_named named s =
+    strip_bytes (named_mark named.property ∷ []) s >>= strip_type named.ty >>= strip_text named.name
+    >>= strip_arg named.value
 
 -- after a value: the prolog 1, the fixed arguments, how many are named, and these
 abbrev pub strip_attr : AttrValue → List ℕ → Option (List ℕ)
 strip_attr value s =
-    strip_little 2 1 s >>= strip_row (map strip_arg value.fixed) >>= strip_little 2 (length value.named) >>= strip_row (map strip_named value.named)
+    strip_little 2 1 s >>= strip_row (map strip_arg value.fixed) >>= strip_little 2 (length value.named)
+    >>= strip_row (map strip_named value.named)
 
 pub record HasNamedType (widths : List EnumWidth) (named : NamedArg) : Type 0 where
   pub name : is_short_text named.name ≡ true
@@ -46,6 +49,7 @@ pub record HasAttrType (params : List ArgType) (widths : List EnumWidth) (value 
   pub named : EachItem (HasNamedType widths) value.named
 
 -- the value with these parameter types and widths spells the whole blob
-pub record ReadsAttr (params : List ArgType) (widths : List EnumWidth) (value : AttrValue) (blob : List ℕ) : Type 0 where
+pub record ReadsAttr (params : List ArgType) (widths : List EnumWidth) (value : AttrValue) (blob : List ℕ)
+    : Type 0 where
   pub whole : strip_attr value blob ≡ Some []
   pub typed : HasAttrType params widths value

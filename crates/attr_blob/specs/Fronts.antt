@@ -1,5 +1,6 @@
 -- What stays of bytes after a number, a text or a row of values at their front: ECMA-335 II.23.3.
-use Rattle.std.specs.Prelude.{ℕ, ◌^◌, ◌==◌, ◌&&◌, List, [], ◌∷◌, ◌++◌, Option, Some, None, Bool, nat_lt, nat_le, length, drop, if◌then◌else◌}
+use Rattle.std.specs.Prelude.{ℕ, ◌^◌, ◌==◌, ◌&&◌, List, [], ◌∷◌, ◌++◌, Option, Some, None, Bool, nat_lt, nat_le}
+use Rattle.std.specs.Prelude.{length, drop, if◌then◌else◌}
 use Rattle.cil_base.specs.Number.{strip_bytes, strip_number, spelled_number}
 use Rattle.cil_base.specs.Place.{number_at}
 use Rattle.cil_base.specs.Steps.{◌>>=◌}

@@ -21,9 +21,11 @@ LaterNeeds {A} stands needs (suc count) s =
 -- the next type of a boxed value, or of an array that has an element
 abbrev pub needs_level : List EnumWidth → ℕ → (ArgType → List ℕ → Type 0) → ArgType-F ArgType → List ℕ → List ℕ → Type 0
 needs_level widths depth needs (Enum enum) name s = (enum_width widths enum ≡ None) × (enum ≡ name)
-needs_level widths depth needs Boxed name s = (ty : ArgType) × (rest : List ℕ) × (strip_type ty s ≡ Some rest) × (arg_type_fits ty ≡ true) × needs ty rest
+needs_level widths depth needs Boxed name s =
+    (ty : ArgType) × (rest : List ℕ) × (strip_type ty s ≡ Some rest) × (arg_type_fits ty ≡ true) × needs ty rest
 needs_level widths depth needs (Array elem) name s =
-    (count : ℕ) × (rest : List ℕ) × (strip_little 4 count s ≡ Some rest) × (count < 2 ^ 32 - 1) × LaterNeeds (StandsArg widths depth elem) (needs elem) count rest
+    (count : ℕ) × (rest : List ℕ) × (strip_little 4 count s ≡ Some rest) × (count < 2 ^ 32 - 1)
+    × LaterNeeds (StandsArg widths depth elem) (needs elem) count rest
 needs_level widths depth needs (Prim elem) name s = ⊥
 needs_level widths depth needs Text name s = ⊥
 needs_level widths depth needs SystemType name s = ⊥
@@ -31,14 +33,16 @@ needs_level widths depth needs SystemType name s = ⊥
 -- an argument of the type needs the width of the enum of that name
 unfoldable pub NeedsWidth : List EnumWidth → ℕ → List ℕ → ArgType → List ℕ → Type 0
 NeedsWidth widths zero name ty s = ⊥
-NeedsWidth widths (suc depth) name ty s = (arg_type_fits ty ≡ true) × needs_level widths depth (NeedsWidth widths depth name) (out-ArgType ty) name s
+NeedsWidth widths (suc depth) name ty s =
+    (arg_type_fits ty ≡ true) × needs_level widths depth (NeedsWidth widths depth name) (out-ArgType ty) name s
 
 -- one of the fixed arguments does
 abbrev pub FixedNeeds : List EnumWidth → List ℕ → List ArgType → List ℕ → Type 0
 FixedNeeds widths name [] s = ⊥
 FixedNeeds widths name (ty ∷ types) s =
     NeedsWidth widths arg_depth_limit name ty s
-    ⊎ ((arg : Arg) × (rest : List ℕ) × StandsArg widths arg_depth_limit ty arg s rest × FixedNeeds widths name types rest)
+    ⊎ ((arg : Arg) × (rest : List ℕ)
+    × StandsArg widths arg_depth_limit ty arg s rest × FixedNeeds widths name types rest)
 
 -- a named argument stands at the front of the bytes, and `rest` stays
 pub record StandsNamed (widths : List EnumWidth) (named : NamedArg) (bytes rest : List ℕ) : Type 0 where
@@ -64,12 +68,15 @@ pub record NamedNeeds (widths : List EnumWidth) (name : List ℕ) (s : List ℕ)
   pub fits : arg_type_fits ty ≡ true
   pub needs :
       lacks_level widths name (out-ArgType ty)
-      ⊎ ((own : List ℕ) × (rest : List ℕ) × (strip_text own at_name ≡ Some rest) × NeedsWidth widths arg_depth_limit name ty rest)
+      ⊎ ((own : List ℕ) × (rest : List ℕ)
+      × (strip_text own at_name ≡ Some rest) × NeedsWidth widths arg_depth_limit name ty rest)
 
 abbrev pub LaterNamedNeeds : List EnumWidth → List ArgType → List ℕ → List ℕ → Type 0
 LaterNamedNeeds widths params name s =
-    (fixed : List Arg) × (at_count : List ℕ) × (count : ℕ) × (rest : List ℕ) × (strip_row (map strip_arg fixed) s ≡ Some at_count) × HasTypes widths params fixed
-    × (strip_little 2 count at_count ≡ Some rest) × (count < 2 ^ 16) × LaterNeeds (StandsNamed widths) (NamedNeeds widths name) count rest
+    (fixed : List Arg) × (at_count : List ℕ) × (count : ℕ) × (rest : List ℕ)
+    × (strip_row (map strip_arg fixed) s ≡ Some at_count) × HasTypes widths params fixed
+    × (strip_little 2 count at_count ≡ Some rest) × (count < 2 ^ 16)
+    × LaterNeeds (StandsNamed widths) (NamedNeeds widths name) count rest
 
 -- the blob cannot be read on before the width of the enum of that name is known
 pub record AttrNeeds (params : List ArgType) (widths : List EnumWidth) (name : List ℕ) (blob : List ℕ) : Type 0 where

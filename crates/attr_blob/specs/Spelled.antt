@@ -6,7 +6,8 @@ use Rattle.attr_blob.specs.Fronts.{spelled_text}
 use Rattle.attr_blob.specs.Types.{number_width, spelled_type}
 use Rattle.attr_blob.specs.Attrs.{named_mark}
 use Rattle.attr_blob.specs.declared.value.Arg.{Arg}
-use Rattle.attr_blob.specs.declared.value.Arg.TheOpen.{Arg-F, Num, Text, NullText, TypeName, NullType, Boxed, Enum, Array, NullArray}
+use Rattle.attr_blob.specs.declared.value.Arg.TheOpen.{Arg-F, Num, Text, NullText, TypeName, NullType, Boxed, Enum}
+use Rattle.attr_blob.specs.declared.value.Arg.TheOpen.{Array, NullArray}
 use Rattle.attr_blob.specs.declared.value.Arg.TheFolds.{fold-Arg}
 use Rattle.attr_blob.specs.declared.value.NamedArg.{NamedArg}
 use Rattle.attr_blob.specs.declared.value.AttrValue.{AttrValue}
@@ -29,10 +30,12 @@ abbrev pub spelled_args : List Arg → List ℕ
 spelled_args args = flat_map (λ item. item) (map spelled_arg args)
 
 abbrev pub spelled_named : NamedArg → List ℕ
-spelled_named named = named_mark named.property ∷ spelled_type named.ty ++ spelled_text named.name ++ spelled_arg named.value
+spelled_named named =
+    named_mark named.property ∷ spelled_type named.ty ++ spelled_text named.name ++ spelled_arg named.value
 
 abbrev pub spelled_all_named : List NamedArg → List ℕ
 spelled_all_named all = flat_map (λ item. item) (map spelled_named all)
 
 abbrev pub spelled_attr : AttrValue → List ℕ
-spelled_attr value = 1 ∷ 0 ∷ spelled_args value.fixed ++ little_bytes 2 (length value.named) ++ spelled_all_named value.named
+spelled_attr value =
+    1 ∷ 0 ∷ spelled_args value.fixed ++ little_bytes 2 (length value.named) ++ spelled_all_named value.named

@@ -1,5 +1,6 @@
 -- Types of attribute arguments: ECMA-335 II.23.3, II.23.1.16.
-use Rattle.std.specs.Prelude.{ℕ, ◌==◌, ◌&&◌, ◌||◌, List, [], ◌∷◌, Option, None, Bool, true, false, nat_le, nat_eq, if◌then◌else◌, option_map, find}
+use Rattle.std.specs.Prelude.{ℕ, ◌==◌, ◌&&◌, ◌||◌, List, [], ◌∷◌, Option, None, Bool, true, false, nat_le, nat_eq}
+use Rattle.std.specs.Prelude.{if◌then◌else◌, option_map, find}
 use Rattle.std.specs.Cmp.Lexicographic.{pointwise}
 use Rattle.cil_base.specs.Number.{strip_bytes}
 use Rattle.cil_base.specs.Steps.{◌>>=◌}

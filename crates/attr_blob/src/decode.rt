@@ -1,7 +1,8 @@
 ghost use Rattle.std.specs.Prelude.{◌≡◌, IfOk};
 ghost use Rattle.attr_blob.specs.Decoded.{attr_at};
 ghost use Rattle.attr_blob.specs.inner.Steps.{FoundAt, StandsAtFront};
-ghost use Rattle.attr_blob.specs.inner.Reading.{after_fixed, fixed_at, many_items_at, mark_at, named_at, named_value, value_at};
+ghost use Rattle.attr_blob.specs.inner.Reading.{after_fixed, fixed_at, many_items_at, mark_at, named_at, named_value};
+ghost use Rattle.attr_blob.specs.inner.Reading.{value_at};
 
 use crate::read_arg::{Found, read_arg};
 use crate::read_leaf::{read_little, read_text};
@@ -14,10 +15,10 @@ use std::alloc::Global;
 /// The greatest depth of an argument.
 const DEPTH_LIMIT: u32 = 64;
 
-/// What the blob of an attribute says, whose constructor has parameters of these types. `Value` exactly where a value with
-/// these types and widths spells the whole blob; `Unknown` exactly where the bytes spell the arguments before it and the next
-/// type is an enum without a width, or an array of such that has an element; `Bad` in all other cases. Of two widths of one
-/// name the first counts (ECMA-335 II.23.3).
+/// What the blob of an attribute says, whose constructor has parameters of these types. `Value` exactly where a value
+/// with these types and widths spells the whole blob; `Unknown` exactly where the bytes spell the arguments before it
+/// and the next type is an enum without a width, or an array of such that has an element; `Bad` in all other cases. Of
+/// two widths of one name the first counts (ECMA-335 II.23.3).
 #[tactic(auto, unfolding(crate::specs::Decoded::attr_at))]
 pub fn decode_attr(
     alloc: Global,

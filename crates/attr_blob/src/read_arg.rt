@@ -2,7 +2,8 @@ ghost use Rattle.std.specs.Prelude.{◌≡◌, IfOk};
 ghost use Rattle.attr_blob.specs.declared.value.ArgType.TheViews.{out-ArgType};
 ghost use Rattle.attr_blob.specs.Types.{enum_width};
 ghost use Rattle.attr_blob.specs.inner.Steps.{FoundAt, StandsAtFront};
-ghost use Rattle.attr_blob.specs.inner.Reading.{arg_at, array_arg, boxed_arg, enum_of, items_arg, arg_level_at, many_items_at, nullable_at, text_arg};
+ghost use Rattle.attr_blob.specs.inner.Reading.{arg_at, array_arg, boxed_arg, enum_of, items_arg, arg_level_at};
+ghost use Rattle.attr_blob.specs.inner.Reading.{many_items_at, nullable_at, text_arg};
 
 use crate::read_leaf::{Front, read_little, read_text};
 use crate::stop::Stop;
@@ -106,7 +107,8 @@ fn read_level<'a>(
     bytes: &'a [u8],
     depth: u32,
 ) -> Found<'a, Arg>
-    ensures { IfOk result (λ found. FoundAt found (arg_level_at widths.now (arg_at widths.now depth) (out-ArgType ty.now) bytes.now)) }
+    ensures { IfOk result (λ found.
+        FoundAt found (arg_level_at widths.now (arg_at widths.now depth) (out-ArgType ty.now) bytes.now)) }
 {
     match ty {
         ArgType::Prim(elem) => match read_little(bytes, number_width(*elem)) {

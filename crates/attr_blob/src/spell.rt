@@ -15,13 +15,14 @@ use crate::value::{Arg, ArgType, AttrValue, NamedArg};
 use cil_base::{Bytes, List, NoMemory, write_compressed};
 use std::alloc::Global;
 
-/// The bytes of a value, each number in its shortest form. They are read back as the same value, given its parameter types and
-/// widths, where it keeps the bounds: types that can be spelled, arguments of their types whose bits fit, at most 64 deep,
-/// fewer than 2^16 named arguments, texts and names shorter than 2^29 bytes, arrays of fewer than 2^32 - 1 elements
-/// (ECMA-335 II.23.3).
+/// The bytes of a value, each number in its shortest form. They are read back as the same value, given its parameter
+/// types and widths, where it keeps the bounds: types that can be spelled, arguments of their types whose bits fit, at
+/// most 64 deep, fewer than 2^16 named arguments, texts and names shorter than 2^29 bytes, arrays of at most 2^32 - 2
+/// elements (ECMA-335 II.23.3).
 pub fn encode_attr(alloc: Global, value: &AttrValue) -> Result<Bytes, NoMemory>
     ensures spelled { IfOk result (λ bytes. bytes ≡ spelled_attr value.now) }
-    ensures read_back { IfOk result (λ bytes. (params : List ArgType) (widths : List EnumWidth) → HasAttrType params widths value.now → attr_at params widths bytes ≡ Value value.now) }
+    ensures read_back { IfOk result (λ bytes. (params : List ArgType) (widths : List EnumWidth)
+        → HasAttrType params widths value.now → attr_at params widths bytes ≡ Value value.now) }
 {
     let mut out = List::new(alloc);
     out.extend(&[1, 0])?;

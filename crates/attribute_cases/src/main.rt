@@ -1,14 +1,14 @@
-//! Decodes the blobs of attributes on standard input, one a line, `TYPES|WIDTHS|BLOB`, and prints of each its number and
+//! Decodes blobs of attributes on standard input, one a line, `TYPES|WIDTHS|BLOB`, and prints of each its number and
 //!
 //! | what is printed | where |
 //! |---|---|
-//! | `value [FIXED,..] NAMED .. = BYTES` | the blob is a value, whose arguments stand there, and the bytes are its spelling |
+//! | `value [FIXED,..] NAMED .. = BYTES` | the blob is a value with these arguments, and is spelled so |
 //! | `unknown NAME` | the width of the enum is needed |
 //! | `bad` | there is neither |
 //! | `no case` | the line is none |
 //!
-//! Types are parted by spaces: an element type in two hex digits, `text`, `type`, `boxed`, `enum:NAME`, each with `[]` before it
-//! for an array. So are widths, `NAME=ELEMENT`.
+//! Types are parted by spaces: an element type in two hex digits, `text`, `type`, `boxed`, `enum:NAME`, each with `[]`
+//! before it for an array. So are widths, `NAME=ELEMENT`.
 #![tactic(auto)]
 
 mod case;

@@ -1,5 +1,6 @@
 -- Arguments by the bytes.
-use Rattle.std.specs.Prelude.{ℕ, zero, suc, ◌==◌, ◌&&◌, List, [], ◌∷◌, ◌++◌, Option, Some, None, Ok, Err, Bool, true, false, nat_le, length, take, drop, if◌then◌else◌}
+use Rattle.std.specs.Prelude.{ℕ, zero, suc, ◌==◌, ◌&&◌, List, [], ◌∷◌, ◌++◌, Option, Some, None, Ok, Err, Bool, true}
+use Rattle.std.specs.Prelude.{false, nat_le, length, take, drop, if◌then◌else◌}
 use Rattle.cil_base.specs.Place.{number_at}
 use Rattle.cil_base.specs.Steps.{◌>>=◌}
 use Rattle.cil_base.specs.inner.Reading.{compressed_at}
@@ -20,7 +21,8 @@ use Rattle.attr_blob.specs.declared.value.AttrValue.{AttrValue}
 
 abbrev pub little_at : ℕ → List ℕ → Option (ℕ × List ℕ)
 little_at width s =
-    if nat_le width (length s) && fits_in width (number_at s 0 width) then Some (number_at s 0 width, drop width s) else None
+    if nat_le width (length s) && fits_in width (number_at s 0 width)
+    then Some (number_at s 0 width, drop width s) else None
 
 -- so many bytes
 abbrev pub taken_at : ℕ → List ℕ → Option (List ℕ × List ℕ)
@@ -68,12 +70,14 @@ enum_of name None s = Err (Lacks name)
 enum_of name (Some elem) s = if is_numeric elem then number_arg (args.Enum name elem) elem s else Err Fails
 
 abbrev pub boxed_arg : (ArgType → List ℕ → Found Arg) → List ℕ → Found Arg
-boxed_arg item s = behind (arg_type_at s) (λ ty rest. onward (item ty rest) (λ arg after. Ok (args.Boxed ty arg, after)))
+boxed_arg item s =
+    behind (arg_type_at s) (λ ty rest. onward (item ty rest) (λ arg after. Ok (args.Boxed ty arg, after)))
 
 -- so many items
 abbrev pub many_items_at : {A : Type 0} → (List ℕ → Found A) → ℕ → List ℕ → Found (List A)
 many_items_at item zero s = Ok ([], s)
-many_items_at item (suc count) s = onward (item s) (λ x rest. onward (many_items_at item count rest) (λ xs after. Ok (x ∷ xs, after)))
+many_items_at item (suc count) s =
+    onward (item s) (λ x rest. onward (many_items_at item count rest) (λ xs after. Ok (x ∷ xs, after)))
 
 -- items with others before them
 abbrev pub with_before : {A : Type 0} → List A → Found (List A) → Found (List A)
@@ -98,7 +102,8 @@ arg_level_at widths item (Array elem) s = array_arg elem (item elem) s
 -- an argument of at most that depth
 unfoldable pub arg_at : List EnumWidth → ℕ → ArgType → List ℕ → Found Arg
 arg_at widths zero ty s = Err Fails
-arg_at widths (suc depth) ty s = if arg_type_fits ty then arg_level_at widths (arg_at widths depth) (out-ArgType ty) s else Err Fails
+arg_at widths (suc depth) ty s =
+    if arg_type_fits ty then arg_level_at widths (arg_at widths depth) (out-ArgType ty) s else Err Fails
 
 -- whether the byte is PROPERTY, or FIELD
 abbrev pub mark_at : List ℕ → Option (Bool × List ℕ)
@@ -133,13 +138,15 @@ named_typed widths property ty None s = named_value widths property ty s
 
 unfoldable pub named_at : List EnumWidth → List ℕ → Found NamedArg
 named_at widths s =
-    behind (mark_at s) (λ property rest. behind (arg_type_at rest) (λ ty after. named_typed widths property ty (lacking widths ty) after))
+    behind (mark_at s) (λ property rest.
+    behind (arg_type_at rest) (λ ty after. named_typed widths property ty (lacking widths ty) after))
 
 -- the fixed arguments
 abbrev pub fixed_at : List EnumWidth → List ArgType → List ℕ → Found (List Arg)
 fixed_at widths [] s = Ok ([], s)
 fixed_at widths (ty ∷ types) s =
-    onward (arg_at widths arg_depth_limit ty s) (λ arg rest. onward (fixed_at widths types rest) (λ args after. Ok (arg ∷ args, after)))
+    onward (arg_at widths arg_depth_limit ty s) (λ arg rest.
+    onward (fixed_at widths types rest) (λ args after. Ok (arg ∷ args, after)))
 
 abbrev pub after_fixed : List EnumWidth → List Arg → List ℕ → Found AttrValue
 after_fixed widths fixed s =
@@ -148,4 +155,5 @@ after_fixed widths fixed s =
 
 unfoldable pub value_at : List ArgType → List EnumWidth → List ℕ → Found AttrValue
 value_at params widths s =
-    behind (little_at 2 s) (λ prolog rest. if prolog == 1 then onward (fixed_at widths params rest) (after_fixed widths) else Err Fails)
+    behind (little_at 2 s) (λ prolog rest.
+    if prolog == 1 then onward (fixed_at widths params rest) (after_fixed widths) else Err Fails)
