@@ -1,5 +1,5 @@
 -- Rows and links.
-use Rattle.std.proofs.Common.{◌≡◌, ℕ, ◌+◌, ◌-◌, ◌≤◌, Bool, true, false, cond, List, [], ◌∷◌, ◌++◌, refl, sym, ap, ◌∙◌, arith}
+use Rattle.std.proofs.Common.{◌≡◌, ℕ, ◌+◌, ◌-◌, ◌≤◌, Bool, true, false, cond, List, [], ◌∷◌, ◌++◌, Option, Some, None, refl, sym, ap, ◌∙◌, arith}
 use Rattle.std.specs.List.{filter}
 use Rattle.std.proofs.lemmas.List.{append-nil}
 use Rattle.std.proofs.lemmas.List.FromFn.{filter_of_map_range_with_len_more}
@@ -8,6 +8,12 @@ use Rattle.md_schema.specs.LinkedRows.{rows_to}
 use Rattle.md_schema.specs.Runs.{table_row_count}
 use Rattle.md_schema.specs.Width.{rows_of}
 use Rattle.cil_base.specs.Token.{Token}
+use Rattle.std.specs.Option.{IsSome, option_map}
+use Rattle.md_schema.proofs.LinkLemmas.{link_stands}
+use Rattle.md_schema.specs.Column.{ColumnOf}
+use Rattle.md_schema.specs.Entry.{column_of}
+use Rattle.md_schema.specs.Link.{link_column_of, link_table_of}
+use Rattle.md_schema.specs.declared.link.Link.{Link}
 
 pub table_row_count-is : (stream : List ℕ) (head : Head) (table : ℕ) → OpensTables stream head → rows_of head.counts table ≡ table_row_count stream table
 table_row_count-is stream head table o = ap (λ (h : Head). rows_of h.counts table) o.seen
@@ -43,3 +49,13 @@ linked-no p table rid rows new h so_far it_is e =
     e ∙ so_far ∙ sym (append-nil (filter p (rows_to table (rid - 1))))
     ∙ ap (λ b. filter p (rows_to table (rid - 1)) ++ cond b (record { table = table; rid = rid } ∷ []) []) (sym it_is)
     ∙ sym (linked-next p table rid h)
+
+some_mapped : {A B : Type 0} (f : A → B) (o : Option A) (y : B) → option_map f o ≡ Some y → IsSome o
+some_mapped f None y h = absurd (cc)
+some_mapped f (Some x) y h = refl
+
+-- the column of a link stands in its table
+pub link_column-stands : (link : Link) → IsSome (column_of (link_table_of link) (link_column_of link))
+link_column-stands link =
+    let stands = link_stands link in
+    some_mapped (λ (column : ColumnOf). column.kind) (column_of (link_table_of link) (link_column_of link)) stands.0 stands.1

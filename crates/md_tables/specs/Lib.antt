@@ -1,3 +1,4 @@
+pub mod LinkIndex
 pub mod Refusal
 pub mod Written
 pub mod inner

@@ -6,9 +6,13 @@ mod cell;
 mod header;
 mod laws;
 mod layout;
+mod link_index;
+mod link_list;
+mod link_row;
 mod links;
 mod runs;
 mod tables;
 
 pub use laws::{rows_read_back, whole_is_not_refused};
+pub use link_index::LinkIndex;
 pub use tables::{Tables, TablesRefusal};

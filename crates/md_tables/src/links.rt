@@ -1,6 +1,6 @@
 ghost use Rattle.std.specs.Prelude.{◌≡◌, IfOk};
-ghost use Rattle.md_schema.specs.Link.{link_table_of};
-ghost use Rattle.md_schema.specs.Cell.{IsRowOf};
+ghost use Rattle.md_schema.specs.Link.{link_column_of, link_table_of};
+ghost use Rattle.md_schema.specs.Cell.{IsRowOf, cell_of};
 ghost use Rattle.md_schema.specs.Layout.{OpensTables};
 ghost use Rattle.md_schema.specs.LinkedRows.{is_linked, linked_of};
 
@@ -38,9 +38,16 @@ impl Tables {
         requires row { IsRowOf self.now (link_table_of link) rid }
         ensures { result ≡ is_linked stream.now token link (record { table = link_table_of link; rid = rid }) }
     {
-        let kind = link_kind(link);
+        names(link_kind(link), self.link_number(stream, rid, link), token)
+    }
+
+    /// Returns the number in the link's column of this row of its table.
+    pub(crate) fn link_number(&self, stream: &[u8], rid: u32, link: Link) -> u32
+        requires opened { OpensTables stream.now self.now }
+        requires row { IsRowOf self.now (link_table_of link) rid }
+        ensures { result ≡ cell_of stream.now (link_table_of link) rid (link_column_of link) }
+    {
         let place = link_column(link);
-        let value = self.cell(stream, place.table, rid, place.column);
-        names(kind, value, token)
+        self.cell(stream, place.table, rid, place.column)
     }
 }
