@@ -10,7 +10,7 @@
 //! | `sentinel PLACE COUNT`, `pointer PLACE COUNT` | a method, or a function pointer, of COUNT times `i4`, with a sentinel |
 //! | `deep SORT COUNT` | a signature of a sort with an `i4` below COUNT arrays |
 
-ghost use Rattle.std.specs.Prelude.{◌↔◌, IsTrue};
+ghost use Rattle.std.specs.Prelude.{◌↔◌, IsSome};
 ghost use Rattle.sig_tree.specs.Bounds.{IsBoundedSig};
 
 use crate::shown::shown;
@@ -21,21 +21,17 @@ use std::alloc::Global;
 
 /// What is shown of the signature of the tree that a case describes.
 pub(crate) fn answer(alloc: Global, line: &str) -> Result<Bytes, NoMemory> {
-    let tree = tree(alloc, line)?;
-    if !is_signature(tree.copy(alloc)?) {
-        return List::from_slice(alloc, b"none");
-    }
-    match Sig::of(tree) {
+    match signature(tree(alloc, line)?) {
         Some(sig) => shown(alloc, &sig),
-        None => List::from_slice(alloc, b"?"),
+        None => List::from_slice(alloc, b"none"),
     }
 }
 
-/// Whether a tree is one of a signature, in both directions.
-fn is_signature(tree: SigTree) -> bool
-    ensures { IsTrue result ↔ IsBoundedSig tree }
+/// The signature of a tree, in both directions.
+fn signature(tree: SigTree) -> Option<Sig>
+    ensures { IsSome result ↔ IsBoundedSig tree }
 {
-    Sig::of(tree).is_some()
+    Sig::of(tree)
 }
 
 /// The tree that a case describes.
@@ -45,13 +41,15 @@ fn tree(alloc: Global, line: &str) -> Result<SigTree, NoMemory> {
         "kind" => method(alloc, first.min(255) as u8, Arity::Plain),
         "generic" => method(alloc, 0, Arity::Generic(first)),
         "sentinel" => Ok(SigTree::Method(variable(alloc, first, number(line, 3))?)),
-        "pointer" => {
-            let method = variable(alloc, first, number(line, 3))?;
-            Ok(SigTree::Plain(TypeSig::FnPtr(Boxed::new(alloc, method)?)))
-        }
-        "deep" => deep(alloc, word(line, 2), number(line, 3)),
+        "pointer" => pointer(alloc, variable(alloc, first, number(line, 3))?),
+        "deep" => deep(alloc, word(line, 2), nested(alloc, number(line, 3))?),
         _ => Ok(SigTree::Plain(ty(alloc, line)?)),
     }
+}
+
+/// A function pointer alone.
+fn pointer(alloc: Global, method: MethodSig) -> Result<SigTree, NoMemory> {
+    Ok(SigTree::Plain(TypeSig::FnPtr(Boxed::new(alloc, method)?)))
 }
 
 /// A type that a case describes.
@@ -82,11 +80,14 @@ fn ty(alloc: Global, line: &str) -> Result<TypeSig, NoMemory> {
 
 /// An array of `i4`.
 fn array(alloc: Global, rank: u32, sizes: &[u32], lows: &[i32]) -> Result<TypeSig, NoMemory> {
+    let sizes = List::from_slice(alloc, sizes)?;
+    let lows = List::from_slice(alloc, lows)?;
+    let elem = Boxed::new(alloc, TypeSig::Prim(0x08))?;
     Ok(TypeSig::Array {
-        elem: Boxed::new(alloc, TypeSig::Prim(0x08))?,
+        elem,
         rank,
-        sizes: List::from_slice(alloc, sizes)?,
-        lows: List::from_slice(alloc, lows)?,
+        sizes,
+        lows,
     })
 }
 
@@ -114,23 +115,29 @@ fn method(alloc: Global, kind: u8, arity: Arity) -> Result<SigTree, NoMemory> {
 
 /// A method of so many times `i4`, with a sentinel before the one at that place.
 fn variable(alloc: Global, place: u32, count: u32) -> Result<MethodSig, NoMemory> {
+    let params = several(alloc, count)?;
     Ok(MethodSig {
         kind: 5,
         this: false,
         explicit: false,
         arity: Arity::Plain,
         ret: TypeSig::Prim(0x01),
-        params: several(alloc, count)?,
+        params,
         sentinel: Sentinel::Before(place),
     })
 }
 
-/// A signature of that sort with an `i4` below so many arrays.
-fn deep(alloc: Global, sort: &str, count: u32) -> Result<SigTree, NoMemory> {
+/// An `i4` below so many arrays.
+fn nested(alloc: Global, count: u32) -> Result<TypeSig, NoMemory> {
     let mut ty = TypeSig::Prim(0x08);
     for _ in 0..count {
         ty = TypeSig::SzArray(Boxed::new(alloc, ty)?);
     }
+    Ok(ty)
+}
+
+/// A signature of that sort with that type.
+fn deep(alloc: Global, sort: &str, ty: TypeSig) -> Result<SigTree, NoMemory> {
     match sort {
         "field" => Ok(SigTree::Field(ty)),
         "locals" => Ok(SigTree::Locals(one(alloc, ty)?)),
@@ -139,14 +146,20 @@ fn deep(alloc: Global, sort: &str, count: u32) -> Result<SigTree, NoMemory> {
             ty,
             params: List::new(alloc),
         }),
-        "indexer" => Ok(SigTree::Property {
-            this: true,
-            ty: TypeSig::Prim(0x08),
-            params: one(alloc, ty)?,
-        }),
+        "indexer" => indexer(alloc, ty),
         "arguments" => Ok(SigTree::Inst(one(alloc, ty)?)),
         _ => Ok(SigTree::Plain(ty)),
     }
+}
+
+/// A property with a parameter of that type.
+fn indexer(alloc: Global, ty: TypeSig) -> Result<SigTree, NoMemory> {
+    let params = one(alloc, ty)?;
+    Ok(SigTree::Property {
+        this: true,
+        ty: TypeSig::Prim(0x08),
+        params,
+    })
 }
 
 /// A list of one type.
