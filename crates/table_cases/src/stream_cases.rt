@@ -1,7 +1,7 @@
 use crate::words::{number, word};
 use cil_base::Token;
-use md_schema::{column_at, links, start_column};
-use md_tables::Tables;
+use md_schema::{column_at, link_column, links, start_column};
+use md_tables::{LinkIndex, Tables};
 use std::alloc::{AllocError, Global};
 
 /// The answer to a case of the tables stream that stands.
@@ -15,6 +15,7 @@ pub(crate) fn answer(alloc: Global, line: &str, stream: &[u8]) -> Result<String,
         "cells" => cells(alloc, stream, number(line, 1)),
         "range" => range(alloc, stream, number(line, 1), number(line, 2)),
         "linked" => linked(alloc, stream, number(line, 1), number(line, 2)),
+        "indexed" => indexed(alloc, stream, number(line, 1), number(line, 2)),
         _ => String::from_str(alloc, "no case"),
     }
 }
@@ -83,6 +84,25 @@ fn linked(alloc: Global, stream: &[u8], token: u32, link: u32) -> Result<String,
     for row in rows.as_slice() {
         let number = row.number();
         write!(text, " {number:08x}")?;
+    }
+    Ok(text)
+}
+
+fn indexed(alloc: Global, stream: &[u8], token: u32, link: u32) -> Result<String, AllocError> {
+    let Ok(tables) = Tables::open(stream) else {
+        return String::from_str(alloc, "not open");
+    };
+    let Some(link) = links().get(link as usize) else {
+        return String::from_str(alloc, "no link");
+    };
+    let Ok(index) = LinkIndex::open(alloc, &tables, stream) else {
+        return String::from_str(alloc, "no memory");
+    };
+    let table = link_column(*link).table;
+    let mut text = String::from_str(alloc, "rows")?;
+    for rid in index.linked(Token::from_number(token), *link) {
+        let rid = *rid;
+        write!(text, " {table:02x}{rid:06x}")?;
     }
     Ok(text)
 }
