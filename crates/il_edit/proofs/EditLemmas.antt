@@ -1,6 +1,6 @@
 -- What each edit makes, and why it is refused, in parts.
 use Rattle.std.proofs.Common.{◌≡◌, ◌==◌, ◌||◌, ◌+◌, ◌-◌, ◌<◌, ◌≤◌, ◌^◌, ◌++◌, ℕ, zero, suc, List, [], ◌∷◌, length, map, take, drop, set, Bool, true, false, cond, Option, Some, None, refl, sym, ap, ◌∙◌, arith, nat_lt, nat_le}
-use Rattle.std.specs.Prelude.{insert, option_map, remove, slice_set}
+use Rattle.std.specs.Prelude.{insert, remove, slice_set}
 use Rattle.std.specs.Option.{option_or}
 use Rattle.std.proofs.lemmas.List.{drop-map, length-map, set_split, take-map}
 use Rattle.std.proofs.lemmas.List.Edits.{length-insert, length-remove}
@@ -8,7 +8,7 @@ use Rattle.std.proofs.lemmas.Bool.Decides.{nat_tests}
 use Rattle.il_code.specs.declared.instr.Instr.{Instr}
 use Rattle.il_code.specs.declared.handler.Handler.{Handler}
 use Rattle.il_code.specs.declared.il_refusal.IlRefusal.{IlRefusal}
-use Rattle.il_code.specs.declared.il_refusal.IlRefusal.TheVariants.{PlaceBeyond, BadCode, BadHandler}
+use Rattle.il_code.specs.declared.il_refusal.IlRefusal.TheVariants.{PlaceBeyond}
 use Rattle.il_code.specs.declared.operand.Operand.TheVariants as of
 use Rattle.il_code.specs.Body.{Body}
 use Rattle.il_code.specs.Code.{instr_of, placed}
@@ -19,8 +19,8 @@ use Rattle.il_code.specs.Sound.{is_sound_handler, is_sound_instr}
 use Rattle.il_code.specs.Spelling.{placed_handler}
 use Rattle.il_edit.specs.declared.shift.Shift.TheVariants.{PutIn, TakenOut}
 use Rattle.il_edit.specs.inner.Failing.{failing_from, told}
-use Rattle.il_edit.specs.inner.Shifted.{kept, shifted}
-use Rattle.il_edit.proofs.FailingLemmas.{failing-is, none-joined, none-parts, passes}
+use Rattle.il_edit.specs.inner.Shifted.{kept}
+use Rattle.il_edit.proofs.FailingLemmas.{failing-is, none-joined, passes}
 use Rattle.il_edit.proofs.KeptLemmas.{code-kept, handlers-kept}
 use Rattle.il_edit.proofs.ShiftLemmas.{all-stay, stay-handler, stay-instr}
 

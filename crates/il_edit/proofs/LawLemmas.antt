@@ -2,9 +2,6 @@
 use Rattle.std.proofs.Common.{◌≡◌, ◌≤◌, ℕ, zero, suc, List, [], ◌∷◌, length, map, refl, ap, ◌∙◌, arith}
 use Rattle.std.specs.Prelude.{insert, remove}
 use Rattle.std.proofs.lemmas.List.{length-map}
-use Rattle.il_code.specs.declared.instr.Instr.{Instr}
-use Rattle.il_code.specs.declared.handler.Handler.{Handler}
-use Rattle.il_code.specs.Body.{Body}
 use Rattle.il_code.specs.Code.{placed}
 use Rattle.il_code.specs.Edited.{body_of_parts, lowered, raised, with_instr, without_instr}
 use Rattle.il_code.specs.Spelling.{placed_handler}

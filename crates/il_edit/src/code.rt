@@ -9,8 +9,9 @@ use crate::refused::{insert_refused, remove_refused, replace_refused};
 use crate::shift::Shift;
 use il_code::{Body, IlRefusal, Instr};
 
-/// Puts an instruction in before number `at`. Each target, filter start and bound that is `at` or more rises by one; those of the
-/// new instruction are numbers of the body afterwards. Where it is refused, and where memory is wanting, the body stays as it is.
+/// Puts an instruction in before number `at`. Each target, filter start and bound that is `at` or more rises by one;
+/// those of the new instruction are numbers of the body afterwards. Where it is refused, and where memory is wanting,
+/// the body stays as it is.
 pub fn insert(body: &mut Body, at: u32, instr: Instr) -> Result<(), IlFail>
     ensures done { OnOk result (body.new ≡ with_instr at instr body.old) }
     ensures refused { EditFails result (insert_refusal at instr body.old) }
@@ -27,8 +28,8 @@ pub fn insert(body: &mut Body, at: u32, instr: Instr) -> Result<(), IlFail>
     Ok(())
 }
 
-/// Takes instruction number `at` out. Each target, filter start and bound above `at` falls by one; those that are `at` stay, and are
-/// then those of the instruction after it. Where it is refused, the body stays as it is.
+/// Takes instruction number `at` out. Each target, filter start and bound above `at` falls by one; those that are `at`
+/// stay, and are then those of the instruction after it. Where it is refused, the body stays as it is.
 pub fn remove(body: &mut Body, at: u32) -> Result<(), IlRefusal>
     ensures done { OnOk result (body.new ≡ without_instr at body.old) }
     ensures refused { EditRefuses result (remove_refusal at body.old) }
@@ -44,7 +45,8 @@ pub fn remove(body: &mut Body, at: u32) -> Result<(), IlRefusal>
     Ok(())
 }
 
-/// Puts an instruction in place of number `at`. No target and no bound changes. Where it is refused, the body stays as it is.
+/// Puts an instruction in place of number `at`. No target and no bound changes. Where it is refused, the body stays as
+/// it is.
 pub fn replace(body: &mut Body, at: u32, instr: Instr) -> Result<(), IlRefusal>
     ensures done { OnOk result (body.new ≡ with_instr_for at instr body.old) }
     ensures refused { EditRefuses result (replace_refusal at instr body.old) }

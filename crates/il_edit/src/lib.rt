@@ -1,5 +1,6 @@
-//! Edits of a method's body in place: an instruction is put in, taken out or exchanged, a handler is added or taken out, and the
-//! targets and bounds go along (ECMA-335 II.25.4 and III.1.7.2). What is refused, and in which order, `IlRefusal` says.
+//! Edits of a method's body in place: an instruction is put in, taken out or exchanged, a handler is added or taken
+//! out, and the targets and bounds go along (ECMA-335 II.25.4 and III.1.7.2). What is refused, and in which order,
+//! `IlRefusal` says.
 #![tactic(auto)]
 
 mod check;

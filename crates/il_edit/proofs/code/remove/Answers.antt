@@ -1,7 +1,6 @@
-use Rattle.std.proofs.Common.{◌≡◌, ◌<◌, ◌^◌, length, map, None, sym, ap, ◌∙◌, arith}
+use Rattle.std.proofs.Common.{◌≡◌, length, map, None, sym, ap, ◌∙◌, arith}
 use Rattle.std.specs.Prelude.{remove}
 use Rattle.il_code.specs.Code.{placed}
-use Rattle.il_code.specs.Spelling.{placed_handler}
 use Rattle.il_edit.specs.declared.shift.Shift.TheVariants.{TakenOut}
 use Rattle.il_edit.specs.inner.Shifted.{kept}
 use Rattle.il_code.specs.Body.{Body}

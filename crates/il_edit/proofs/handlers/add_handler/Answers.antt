@@ -1,4 +1,4 @@
-use Rattle.std.proofs.Common.{◌≡◌, ◌+◌, ◌<◌, ◌^◌, [], ◌∷◌, length, map, sym, ap, ◌∙◌, arith, length-append}
+use Rattle.std.proofs.Common.{◌≡◌, ◌+◌, [], ◌∷◌, length, sym, ap, ◌∙◌, arith, length-append}
 use Rattle.il_code.specs.Body.{Body}
 use Rattle.il_code.specs.Edited.{body_of_parts, with_handler}
 use Rattle.il_edit.proofs.EditLemmas.{add_handler-done, add_handler-place}

@@ -1,4 +1,4 @@
-use Rattle.std.proofs.Common.{◌≡◌, ◌<◌, ◌^◌, length, sym, ap, ◌∙◌, arith}
+use Rattle.std.proofs.Common.{◌≡◌, ◌<◌, ◌^◌, length, ap, ◌∙◌, arith}
 use Rattle.il_code.specs.Body.{Body}
 use Rattle.il_edit.proofs.EditLemmas.{add_handler-by, add_handler-is_full}
 use Rattle.il_edit.proofs.refused.add_handler_refused.Goals as goal

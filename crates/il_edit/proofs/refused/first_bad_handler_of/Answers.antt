@@ -1,4 +1,4 @@
-use Rattle.std.proofs.Common.{◌≡◌, ◌+◌, [], length, map, refl, sym, ap, ◌∙◌}
+use Rattle.std.proofs.Common.{length, refl, ap, ◌∙◌}
 use Rattle.il_code.specs.Sound.{is_sound_handler}
 use Rattle.il_code.specs.Spelling.{placed_handler}
 use Rattle.il_edit.specs.inner.Failing.{failing_from}

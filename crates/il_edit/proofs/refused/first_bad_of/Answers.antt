@@ -1,4 +1,4 @@
-use Rattle.std.proofs.Common.{◌≡◌, length, map, sym, ap, ◌∙◌, arith}
+use Rattle.std.proofs.Common.{length, map, sym}
 use Rattle.std.proofs.lemmas.List.{length-map}
 use Rattle.il_code.specs.Code.{placed}
 use Rattle.il_code.specs.Sound.{is_sound_instr}

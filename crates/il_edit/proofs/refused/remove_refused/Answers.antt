@@ -1,4 +1,4 @@
-use Rattle.std.proofs.Common.{◌≡◌, length, Some, sym, ap, ◌∙◌, arith}
+use Rattle.std.proofs.Common.{◌≡◌, length, Some, ap, ◌∙◌, arith}
 use Rattle.il_code.specs.declared.il_refusal.IlRefusal.TheVariants.{PlaceBeyond}
 use Rattle.il_code.specs.Body.{Body}
 use Rattle.il_edit.proofs.EditLemmas.{remove-by, remove-is_beyond}
