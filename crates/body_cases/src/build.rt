@@ -20,19 +20,19 @@ const MOST: usize = 0x100_0000;
 
 /// The body of a case's words, written.
 pub fn answer(alloc: Global, line: &str) -> Result<String, NoMemory> {
-    match body(alloc, line)? {
+    match body(alloc, line, 1)? {
         Some(body) => written::body(alloc, &body, &List::new(alloc)),
         None => Ok(String::from_str(alloc, "?")?),
     }
 }
 
-/// The body of a case's words.
-pub fn body(alloc: Global, line: &str) -> Result<Option<Body>, NoMemory> {
+/// The body of a case's words from a place on.
+pub fn body(alloc: Global, line: &str, first: usize) -> Result<Option<Body>, NoMemory> {
     let mut code = List::new(alloc);
-    for word in line.split(' ').skip(1) {
+    for word in line.split(' ').skip(first) {
         add_instrs(alloc, &mut code, word)?;
     }
-    let handlers = handlers(alloc, line)?;
+    let handlers = handlers(alloc, line, first)?;
     let locals = Token::from_number(hex(value(line, "locals")));
     Ok(made(
         max_stack(line),
@@ -83,17 +83,23 @@ fn made(
 
 /// Adds the instructions of a word, if it is one of instructions.
 fn add_instrs(alloc: Global, all: &mut List<Instr>, word: &str) -> Result<(), NoMemory> {
-    let op = code(part(word, 1));
     let count = if part(word, 0) == "op" {
         number(part(word, 2))
     } else {
         0
     };
     for _i in 0..count {
-        let operand = operand(alloc, part(word, 3), part(word, 4))?;
-        all.push(Instr { op, operand })?;
+        let instr = instr(alloc, word)?;
+        all.push(instr)?;
     }
     Ok(())
+}
+
+/// The instruction of a word.
+pub fn instr(alloc: Global, word: &str) -> Result<Instr, NoMemory> {
+    let op = code(part(word, 1));
+    let operand = operand(alloc, part(word, 3), part(word, 4))?;
+    Ok(Instr { op, operand })
 }
 
 /// The operand of a word.
@@ -114,10 +120,10 @@ fn operand(alloc: Global, kind: &str, value: &str) -> Result<Operand, NoMemory> 
     }
 }
 
-/// The handlers of a case's words.
-fn handlers(alloc: Global, line: &str) -> Result<List<Handler>, NoMemory> {
+/// The handlers of a case's words from a place on.
+fn handlers(alloc: Global, line: &str, first: usize) -> Result<List<Handler>, NoMemory> {
     let mut all = List::new(alloc);
-    for word in line.split(' ').skip(1) {
+    for word in line.split(' ').skip(first) {
         let count = match part(word, 0) {
             "typed" | "filter" | "finally" | "fault" => number(part(word, 1)),
             _ => 0,

@@ -1,11 +1,12 @@
-//! Reads a case a line, calls `il_code`, and prints the case's number and the answer. The answers that are wanted were
-//! made from the lists of ECMA-335 (II.25.4, III and VI.C.2), and not by this program.
+//! Reads a case a line, calls `il_code` and `il_edit`, and prints the case's number and the answer. The answers that
+//! are wanted were made from the lists of ECMA-335 (II.25.4, III and VI.C.2), and not by this program.
 //!
 //! | case | answer |
 //! |---|---|
 //! | `code HEX` | the name of the instruction with that code and what follows it, or `none` |
 //! | `codes` | how many of the codes from 0 to FFFF are instructions' |
 //! | `body HEX USERS TOKEN..` | the body at the front of the bytes, or `none`; then it as it is written |
+//! | `edit VERB AT ITEM WORD..` | an edit of the body of these words, as in `edit.rt` |
 //! | `build WORD..` | the body of these words, as in `build.rt`, written |
 //!
 //! USERS is a heap of user strings, and the tokens stand for the body's texts as it is written. A written body is its
@@ -14,6 +15,7 @@
 #![tactic(auto)]
 
 mod build;
+mod edit;
 mod shown;
 mod words;
 mod written;
@@ -31,6 +33,7 @@ fn answer(alloc: Global, line: &str) -> Result<String, NoMemory> {
         "codes" => count(alloc),
         "body" => body(alloc, line),
         "build" => build::answer(alloc, line),
+        "edit" => edit::answer(alloc, line),
         _ => Ok(String::from_str(alloc, "?")?),
     }
 }
