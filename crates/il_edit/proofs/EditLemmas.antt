@@ -18,20 +18,20 @@ use Rattle.il_code.specs.Edited.{insert_refusal, remove_refusal, replace_refusal
 use Rattle.il_code.specs.Sound.{is_sound_handler, is_sound_instr}
 use Rattle.il_code.specs.Spelling.{placed_handler}
 use Rattle.il_edit.specs.declared.shift.Shift.TheVariants.{PutIn, TakenOut}
-use Rattle.il_edit.specs.inner.Failing.{failing_from, told}
-use Rattle.il_edit.specs.inner.Shifted.{kept}
+use Rattle.il_edit.specs.inner.Failing.{failing_from, refusal_told}
+use Rattle.il_edit.specs.inner.Shifted.{kept_number}
 use Rattle.il_edit.proofs.FailingLemmas.{failing-is, none-joined, passes}
 use Rattle.il_edit.proofs.KeptLemmas.{code-kept, handlers-kept}
 use Rattle.il_edit.proofs.ShiftLemmas.{all-stay, stay-handler, stay-instr}
 
 -- the first bad instruction and the first bad handler of code and handlers among n instructions
 abbrev pub bad_of : ℕ → List Instr → List Handler → Option IlRefusal
-bad_of n code handlers = told (failing_from (is_sound_instr n) 0 code) (failing_from (is_sound_handler n) 0 handlers)
+bad_of n code handlers = refusal_told (failing_from (is_sound_instr n) 0 code) (failing_from (is_sound_handler n) 0 handlers)
 
-found-bad : (code : List Instr) (handlers : List Handler) → told (first_failing (is_sound_instr (length code)) code) (first_failing (is_sound_handler (length code)) handlers) ≡ bad_of (length code) code handlers
+found-bad : (code : List Instr) (handlers : List Handler) → refusal_told (first_failing (is_sound_instr (length code)) code) (first_failing (is_sound_handler (length code)) handlers) ≡ bad_of (length code) code handlers
 found-bad code handlers =
-    ap (λ c. told c (first_failing (is_sound_handler (length code)) handlers)) (failing-is (is_sound_instr (length code)) code)
-    ∙ ap (λ h. told (failing_from (is_sound_instr (length code)) 0 code) h) (failing-is (is_sound_handler (length code)) handlers)
+    ap (λ c. refusal_told c (first_failing (is_sound_handler (length code)) handlers)) (failing-is (is_sound_instr (length code)) code)
+    ∙ ap (λ h. refusal_told (failing_from (is_sound_instr (length code)) 0 code) h) (failing-is (is_sound_handler (length code)) handlers)
 
 -- the code of each edit in parts
 
@@ -165,7 +165,7 @@ remove_handler-is at v h =
 
 -- what the code changes is what the edit makes
 
-none-told : (c h : Option ℕ) → told c h ≡ None → (c ≡ None) × (h ≡ None)
+none-told : (c h : Option ℕ) → refusal_told c h ≡ None → (c ≡ None) × (h ≡ None)
 none-told None None e = (refl, refl)
 none-told None (Some i) e = cc
 none-told (Some i) h e = cc
@@ -191,11 +191,11 @@ abbrev pub plain : Instr
 plain = instr_of 0 of.None
 
 pub insert-done : (at : ℕ) (x : Instr) (v : Body) (z : Instr) → at ≤ length v.code → length v.code < 2 ^ 32 - 1 → insert_refusal at x v ≡ None
-    → body_of_parts v (slice_set (map (placed (kept (PutIn at))) (insert v.code at z)) at x) (map (placed_handler (kept (PutIn at))) v.handlers) ≡ with_instr at x v
+    → body_of_parts v (slice_set (map (placed (kept_number (PutIn at))) (insert v.code at z)) at x) (map (placed_handler (kept_number (PutIn at))) v.handlers) ≡ with_instr at x v
 unfolding with_instr
 insert-done at x v z h k none =
     let f : Instr → Instr = placed (raised at) in
-    let g : Instr → Instr = placed (kept (PutIn at)) in
+    let g : Instr → Instr = placed (kept_number (PutIn at)) in
     let n : ℕ = length v.code + 1 in
     let small : n < 2 ^ 32 = omega (arith, k) in
     let bad = none-told (failing_from (is_sound_instr n) 0 (map f (take at v.code) ++ x ∷ map f (drop at v.code))) (failing_from (is_sound_handler n) 0 (map (placed_handler (raised at)) v.handlers)) (sym (insert-is at x v h k) ∙ none) in
@@ -208,14 +208,14 @@ insert-done at x v z h k none =
     let code : slice_set (map g (insert v.code at z)) at x ≡ insert (map f v.code) at x =
     ap (λ c. set c at x) (map-insert g v.code at z h) ∙ set-insert (map g v.code) at (g z) x (omega (arith, mapped, h))
     ∙ put_in-parts g v.code at x ∙ ap (λ c. c ++ x ∷ map g (drop at v.code)) front ∙ ap (λ c. map f (take at v.code) ++ x ∷ c) back ∙ sym (put_in-parts f v.code at x) in
-    ap (λ c. body_of_parts v c (map (placed_handler (kept (PutIn at))) v.handlers)) code ∙ ap (λ c. body_of_parts v (insert (map f v.code) at x) c) hs
+    ap (λ c. body_of_parts v c (map (placed_handler (kept_number (PutIn at))) v.handlers)) code ∙ ap (λ c. body_of_parts v (insert (map f v.code) at x) c) hs
 
 pub remove-done : (at : ℕ) (v : Body) → at < length v.code → length v.code < 2 ^ 32 → remove_refusal at v ≡ None
-    → body_of_parts v (map (placed (kept (TakenOut at))) (remove v.code at)) (map (placed_handler (kept (TakenOut at))) v.handlers) ≡ without_instr at v
+    → body_of_parts v (map (placed (kept_number (TakenOut at))) (remove v.code at)) (map (placed_handler (kept_number (TakenOut at))) v.handlers) ≡ without_instr at v
 unfolding without_instr
 remove-done at v h k none =
     let f : Instr → Instr = placed (lowered at) in
-    let g : Instr → Instr = placed (kept (TakenOut at)) in
+    let g : Instr → Instr = placed (kept_number (TakenOut at)) in
     let n : ℕ = length v.code - 1 in
     let small : n < 2 ^ 32 = omega (arith, k) in
     let bad = none-told (failing_from (is_sound_instr n) 0 (map f (take at v.code) ++ map f (drop (at + 1) v.code))) (failing_from (is_sound_handler n) 0 (map (placed_handler (lowered at)) v.handlers)) (sym (remove-is at v h) ∙ none) in
@@ -225,7 +225,7 @@ remove-done at v h k none =
     let hs = handlers-kept (TakenOut at) n 0 v.handlers small bad.1 in
     let code : map g (remove v.code at) ≡ remove (map f v.code) at =
     map-remove g v.code at ∙ taken_out-parts g v.code at ∙ ap (λ c. c ++ map g (drop (at + 1) v.code)) front ∙ ap (λ c. map f (take at v.code) ++ c) back ∙ sym (taken_out-parts f v.code at) in
-    ap (λ c. body_of_parts v c (map (placed_handler (kept (TakenOut at))) v.handlers)) code ∙ ap (λ c. body_of_parts v (remove (map f v.code) at) c) hs
+    ap (λ c. body_of_parts v c (map (placed_handler (kept_number (TakenOut at))) v.handlers)) code ∙ ap (λ c. body_of_parts v (remove (map f v.code) at) c) hs
 
 pub replace-done : (at : ℕ) (x : Instr) (v : Body) → body_of_parts v (slice_set v.code at x) v.handlers ≡ with_instr_for at x v
 unfolding with_instr_for
@@ -285,12 +285,12 @@ remove_handler-place at v none = inside (nat_le (length v.handlers) at) refl
 
 -- what the code works out part by part is the refusal
 
-told-by : (res : Option IlRefusal) (bad badh c h : Option ℕ) → bad ≡ c → badh ≡ h → res ≡ told bad badh → res ≡ told c h
-told-by res bad badh c h kc kh r = r ∙ ap (λ b. told b badh) kc ∙ ap (λ b. told c b) kh
+told-by : (res : Option IlRefusal) (bad badh c h : Option ℕ) → bad ≡ c → badh ≡ h → res ≡ refusal_told bad badh → res ≡ refusal_told c h
+told-by res bad badh c h kc kh r = r ∙ ap (λ b. refusal_told b badh) kc ∙ ap (λ b. refusal_told c b) kh
 
 pub insert-by : (at : ℕ) (x : Instr) (v : Body) (xs fr bk : List Instr) (hs : List Handler) (bad badh : Option ℕ) (res : Option IlRefusal) → xs ≡ v.code → hs ≡ v.handlers → fr ≡ take at xs → bk ≡ drop at xs
     → bad ≡ failing_from (is_sound_instr (length xs + 1)) 0 (map (placed (raised at)) fr ++ x ∷ map (placed (raised at)) bk) → badh ≡ failing_from (is_sound_handler (length xs + 1)) 0 (map (placed_handler (raised at)) hs)
-    → at ≤ length xs → length xs < 2 ^ 32 - 1 → res ≡ told bad badh → res ≡ insert_refusal at x v
+    → at ≤ length xs → length xs < 2 ^ 32 - 1 → res ≡ refusal_told bad badh → res ≡ insert_refusal at x v
 insert-by at x v xs fr bk hs bad badh res exs ehs efr ebk kc kh h k r =
     let f : List Instr → List Instr → List Instr → List Handler → Option IlRefusal = λ xs fr bk hs. bad_of (length xs + 1) (map (placed (raised at)) fr ++ x ∷ map (placed (raised at)) bk) (map (placed_handler (raised at)) hs) in
     told-by res bad badh _ _ kc kh r
@@ -299,7 +299,7 @@ insert-by at x v xs fr bk hs bad badh res exs ehs efr ebk kc kh h k r =
 
 pub remove-by : (at : ℕ) (v : Body) (xs fr bk : List Instr) (hs : List Handler) (bad badh : Option ℕ) (res : Option IlRefusal) → xs ≡ v.code → hs ≡ v.handlers → fr ≡ take at xs → bk ≡ drop (at + 1) xs
     → bad ≡ failing_from (is_sound_instr (length xs - 1)) 0 (map (placed (lowered at)) fr ++ map (placed (lowered at)) bk) → badh ≡ failing_from (is_sound_handler (length xs - 1)) 0 (map (placed_handler (lowered at)) hs)
-    → at < length xs → res ≡ told bad badh → res ≡ remove_refusal at v
+    → at < length xs → res ≡ refusal_told bad badh → res ≡ remove_refusal at v
 remove-by at v xs fr bk hs bad badh res exs ehs efr ebk kc kh h r =
     let f : List Instr → List Instr → List Instr → List Handler → Option IlRefusal = λ xs fr bk hs. bad_of (length xs - 1) (map (placed (lowered at)) fr ++ map (placed (lowered at)) bk) (map (placed_handler (lowered at)) hs) in
     told-by res bad badh _ _ kc kh r
@@ -320,7 +320,7 @@ handlers-stay hs = all-stay (placed_handler (λ n. n)) stay-handler hs
 
 pub replace-by : (at : ℕ) (x : Instr) (v : Body) (xs fr bk : List Instr) (hs : List Handler) (bad badh : Option ℕ) (res : Option IlRefusal) → xs ≡ v.code → hs ≡ v.handlers → fr ≡ take at xs → bk ≡ drop (at + 1) xs
     → bad ≡ failing_from (is_sound_instr (length xs)) 0 (all_code fr ++ x ∷ all_code bk) → badh ≡ failing_from (is_sound_handler (length xs)) 0 (all_handlers hs)
-    → at < length xs → res ≡ told bad badh → res ≡ replace_refusal at x v
+    → at < length xs → res ≡ refusal_told bad badh → res ≡ replace_refusal at x v
 replace-by at x v xs fr bk hs bad badh res exs ehs efr ebk kc kh h r =
     let f : List Instr → List Instr → List Instr → List Handler → Option IlRefusal = λ xs fr bk hs. bad_of (length xs) (fr ++ x ∷ bk) hs in
     told-by res bad badh _ _ kc kh r
@@ -330,7 +330,7 @@ replace-by at x v xs fr bk hs bad badh res exs ehs efr ebk kc kh h r =
 
 pub add_handler-by : (h : Handler) (v : Body) (xs : List Instr) (hs : List Handler) (n : ℕ) (bad badh : Option ℕ) (res : Option IlRefusal) → xs ≡ v.code → hs ≡ v.handlers → n ≡ length v.code
     → bad ≡ failing_from (is_sound_instr n) 0 (all_code xs) → badh ≡ failing_from (is_sound_handler n) 0 (hs ++ h ∷ [])
-    → length hs < 2 ^ 32 - 1 → res ≡ told bad badh → res ≡ add_handler_refusal h v
+    → length hs < 2 ^ 32 - 1 → res ≡ refusal_told bad badh → res ≡ add_handler_refusal h v
 add_handler-by h v xs hs n bad badh res exs ehs en kc kh k r =
     told-by res bad badh _ _ kc kh r
     ∙ ap (λ z. bad_of n z (hs ++ h ∷ [])) (code-stays xs ∙ exs) ∙ ap (λ z. bad_of z v.code (hs ++ h ∷ [])) en ∙ ap (λ z. bad_of (length v.code) v.code (z ++ h ∷ [])) ehs
@@ -338,7 +338,7 @@ add_handler-by h v xs hs n bad badh res exs ehs en kc kh k r =
 
 pub remove_handler-by : (at : ℕ) (v : Body) (xs : List Instr) (hs fr bk : List Handler) (n : ℕ) (bad badh : Option ℕ) (res : Option IlRefusal) → xs ≡ v.code → hs ≡ v.handlers → n ≡ length v.code → fr ≡ take at hs → bk ≡ drop (at + 1) hs
     → bad ≡ failing_from (is_sound_instr n) 0 (all_code xs) → badh ≡ failing_from (is_sound_handler n) 0 (fr ++ bk)
-    → at < length hs → res ≡ told bad badh → res ≡ remove_handler_refusal at v
+    → at < length hs → res ≡ refusal_told bad badh → res ≡ remove_handler_refusal at v
 remove_handler-by at v xs hs fr bk n bad badh res exs ehs en efr ebk kc kh h r =
     told-by res bad badh _ _ kc kh r
     ∙ ap (λ z. bad_of n z (fr ++ bk)) (code-stays xs ∙ exs) ∙ ap (λ z. bad_of z v.code (fr ++ bk)) en

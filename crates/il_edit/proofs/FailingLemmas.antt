@@ -99,12 +99,6 @@ passes test k x xs h = by_test (test x) refl
 
 -- a loop over items that a function makes of others
 
-pub ahead-start : {A B : Type 0} (test : B → Bool) (f : A → B) (base : ℕ) (xs : List A) → failing_from test (base + 0) (map f (drop 0 xs)) ≡ failing_from test base (map f xs)
-ahead-start test f base xs = ap (λ n. failing_from test n (map f xs)) (zero_more base)
-  where
-    zero_more : (k : ℕ) → k + 0 ≡ k
-    zero_more k = omega arith
-
 ahead-step : {A B : Type 0} (test : B → Bool) (f : A → B) (n i : ℕ) (x : A) (xs : List A) → i < length xs → failing_from test n (map f (drop i xs)) ≡ failing_from test n (f (get_or xs i x) ∷ map f (drop (i + 1) xs))
 ahead-step test f n i x xs h = at_drop_more (λ rest. failing_from test n (map f rest)) xs i x h
 

@@ -5,7 +5,7 @@ ghost use Rattle.il_code.specs.Code.{placed};
 ghost use Rattle.il_code.specs.Edited.{add_handler_refusal, insert_refusal, remove_handler_refusal};
 ghost use Rattle.il_code.specs.Edited.{remove_refusal, replace_refusal};
 ghost use Rattle.il_code.specs.Sound.{is_sound_handler, is_sound_instr};
-ghost use Rattle.il_edit.specs.inner.Failing.{failing_from, told};
+ghost use Rattle.il_edit.specs.inner.Failing.{failing_from, refusal_told};
 ghost use Rattle.il_edit.specs.inner.Shifted.{shifted};
 
 use crate::check::{first_bad, first_bad_handler, is_handler_sound, is_sound};
@@ -17,7 +17,7 @@ const MOST: usize = 0xffff_ffff;
 
 /// The refusal for the first bad instruction, or else for the first bad handler.
 fn refusal(code: Option<u32>, handler: Option<u32>) -> Option<IlRefusal>
-    ensures { result ≡ told code handler }
+    ensures { result ≡ refusal_told code handler }
 {
     match code {
         Some(number) => Some(IlRefusal::BadCode(number)),

@@ -1,5 +1,5 @@
 ghost use Rattle.std.specs.Prelude.{◌≡◌};
-ghost use Rattle.il_edit.specs.inner.Shifted.{kept, shifted};
+ghost use Rattle.il_edit.specs.inner.Shifted.{kept_number, shifted};
 
 /// What an edit does to the numbers of instructions.
 #[derive(Clone, Copy)]
@@ -38,7 +38,7 @@ impl Shift {
 
     /// The same, where it is no more than 2^32 - 1, and that otherwise.
     pub(crate) fn narrow(self, number: u32) -> u32
-        ensures { result ≡ kept self number }
+        ensures { result ≡ kept_number self number }
     {
         let number = self.number(number);
         if number < 0x1_0000_0000 {

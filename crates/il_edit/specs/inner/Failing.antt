@@ -10,5 +10,5 @@ failing_from test k [] = None
 failing_from test k (x ∷ xs) = if test x then failing_from test (k + 1) xs else Some k
 
 -- the refusal for the first bad instruction, or else for the first bad handler
-abbrev pub told : Option ℕ → Option ℕ → Option IlRefusal
-told code handler = option_or (option_map BadCode code) (option_map BadHandler handler)
+abbrev pub refusal_told : Option ℕ → Option ℕ → Option IlRefusal
+refusal_told code handler = option_or (option_map BadCode code) (option_map BadHandler handler)

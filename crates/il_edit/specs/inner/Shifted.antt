@@ -10,5 +10,5 @@ shifted (PutIn at) = raised at
 shifted (TakenOut at) = lowered at
 
 -- the same in 32 bits, where it fits them
-abbrev pub kept : Shift → ℕ → ℕ
-kept shift n = if nat_lt (shifted shift n) (2 ^ 32) then shifted shift n else 2 ^ 32 - 1
+abbrev pub kept_number : Shift → ℕ → ℕ
+kept_number shift n = if nat_lt (shifted shift n) (2 ^ 32) then shifted shift n else 2 ^ 32 - 1
