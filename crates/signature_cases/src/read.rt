@@ -1,5 +1,6 @@
-ghost use Rattle.std.specs.Prelude.{◌≡◌, ◌↔◌, IsTrue};
+ghost use Rattle.std.specs.Prelude.{◌≡◌, ◌↔◌, IfOk, IsTrue, length};
 ghost use Rattle.std.specs.List.{list_all};
+ghost use Rattle.sig_tree.specs.Printed.{tokens};
 ghost use Rattle.sig_tree.specs.Replaced.{names_type};
 
 use crate::shown::shown;
@@ -32,16 +33,29 @@ pub(crate) fn copied(alloc: Global, line: &str) -> Result<Bytes, NoMemory> {
 
 /// The printed form with other names.
 pub(crate) fn named(alloc: Global, line: &str) -> Result<Bytes, NoMemory> {
-    let Some(sig) = sig(alloc, word(line, 1), word(line, 2))? else {
-        return List::from_slice(alloc, b"none");
-    };
+    match sig(alloc, word(line, 1), word(line, 2))? {
+        Some(sig) => with_names(alloc, &sig, line),
+        None => List::from_slice(alloc, b"none"),
+    }
+}
+
+/// The same of this signature, with the names of the line.
+fn with_names(alloc: Global, sig: &Sig, line: &str) -> Result<Bytes, NoMemory> {
+    let count = token_count(alloc, sig)?;
     let names = names_from(alloc, line, 3)?;
-    let own = sig_tokens(alloc, &sig)?;
-    if names.len() == own.len() {
-        print_named(alloc, &sig, &names)
+    if names.len() == count {
+        print_named(alloc, sig, &names)
     } else {
         List::from_slice(alloc, b"count")
     }
+}
+
+/// How many type tokens a signature has.
+fn token_count(alloc: Global, sig: &Sig) -> Result<usize, NoMemory>
+    ensures { IfOk result (λ count. count ≡ length (tokens sig.now)) }
+{
+    let own = sig_tokens(alloc, sig)?;
+    Ok(own.len())
 }
 
 /// What is shown of a signature with other tokens.
