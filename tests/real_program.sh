@@ -33,12 +33,14 @@ chmod 000 "$folder/barred.dll"
 
 usage='cecil: usage: dump FILE | show FILE TOKEN | run JOB | gen N'
 expect 'a dump' 0 '' dump small.dll
+expect 'all of a token' 0 '' show small.dll 02000001
+expect 'a token of seven digits' 2 "$usage" show small.dll 0200001
 expect 'no words' 2 "$usage"
 expect 'a word that is not UTF-8' 2 "$usage" dump $'\xff'
 expect 'a name with a slash' 2 "$usage" dump folder/small.dll
 expect 'a file that is not there' 4 'cecil: file none.dll: missing' dump none.dll
 expect 'a file past the limit' 4 'cecil: file long.dll: too long' dump long.dll
-expect 'a file of the limit that is no image' 4 'cecil: file whole.dll: refused 14 NotThin' dump whole.dll
+expect 'a file of the limit that is no image' 4 'cecil: file whole.dll: refused 2 NoDos' dump whole.dll
 expect 'a folder in place of a file' 6 'cecil: read fault' dump folder
 output=/dev/full expect 'a full device' 7 'cecil: write fault' dump small.dll
 if [ "$(id -u)" = 0 ]; then

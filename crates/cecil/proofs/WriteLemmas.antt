@@ -1,5 +1,5 @@
 -- What a writer holds after all bytes or a part of them were written.
-use Rattle.std.proofs.Common.{◌≡◌, sym, ◌∙◌, ap, subst, ℕ, ◌+◌, ◌-◌, ◌≤◌, List, [], ◌++◌, Option, Result, Ok, Err, OnOk, OnErr, length, take, drop, length-append, take_all, take-append-drop, append_assoc, arith, le_refl}
+use Rattle.std.proofs.Common.{◌≡◌, sym, ◌∙◌, ap, subst, ℕ, ◌+◌, ◌-◌, List, ◌++◌, Option, Result, Ok, Err, OnOk, OnErr, length, take, drop, length-append, take_all, take-append-drop, append_assoc, arith, le_refl}
 use Rattle.std.proofs.lemmas.List.{take-append-le, take_rest}
 use Rattle.std.specs.Io.KnownBytes.{Appends}
 use Rattle.cecil.specs.Writes.{AppendsPart}

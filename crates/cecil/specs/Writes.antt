@@ -2,7 +2,7 @@
 use Rattle.std.specs.Prelude.{ℕ, ◌≤◌, ◌⊎◌, List, Option, length, take, codes}
 use Rattle.std.specs.Io.KnownBytes.{Appends}
 use Rattle.cecil_top.specs.Statuses.{status_text}
-use Rattle.cecil_top.specs.Texts.{line}
+use Rattle.cecil_top.specs.Lines.{line}
 use Rattle.cecil_top.specs.declared.status.Status.{Status}
 
 -- a part of the bytes was added, from their front

@@ -11,7 +11,7 @@ use std::rt::Files;
 use thiserror::Error;
 
 /// The bytes that are asked for at once.
-const CHUNK: usize = 4096;
+const CHUNK: usize = 0x1_0000;
 
 /// The files of the current folder. It tells nothing of what they hold.
 #[derive(Drop)]

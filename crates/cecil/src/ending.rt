@@ -2,7 +2,7 @@ ghost use Rattle.std.specs.Prelude.{◌≡◌, ◌≢◌, OnOk};
 ghost use Rattle.std.specs.Io.KnownBytes.{Appends, Keeps};
 ghost use Rattle.std.specs.Process.{exit_status};
 ghost use Rattle.cecil_top.specs.Statuses.{number_of};
-ghost use Rattle.cecil_top.specs.Texts.{line};
+ghost use Rattle.cecil_top.specs.Lines.{line};
 ghost use Rattle.cecil.specs.Writes.{Tells};
 
 use crate::standard_output::write_whole;
@@ -33,7 +33,8 @@ fn tell_line<W: Write>(alloc: Global, errors: &mut W, status: &Status) -> io::Re
 /// Writes the line of a status; nothing for Ok.
 pub fn tell<W: Write>(alloc: Global, errors: &mut W, status: &Status) -> io::Result<()>
     ensures quiet { status.now ≡ Status.Ok → Keeps (W.contents errors.old) (W.contents errors.new) }
-    ensures line { OnOk result (status.now ≢ Status.Ok → Tells (W.contents errors.old) (W.contents errors.new) status.now) }
+    ensures line { OnOk result (status.now ≢ Status.Ok
+        → Tells (W.contents errors.old) (W.contents errors.new) status.now) }
 {
     match status {
         Status::Ok => Ok(()),

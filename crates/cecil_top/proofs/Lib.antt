@@ -1,6 +1,4 @@
 mod AskLemmas
-mod CellsLemmas
-mod DumpLemmas
-mod NameLemmas
+mod InspectLemmas
+mod LimitLemmas
 mod StandardFacts
-mod ThinLemmas

@@ -1,49 +1,40 @@
--- The definitions at worked values: tokens, cells and replies as they are printed, and words of a command line.
+-- The definitions at worked values: words of a command line, and lines of statuses.
 use Rattle.std.proofs.Common.{◌≡◌, refl, ◌∷◌, [], Some, None, codes}
 use Rattle.std.specs.Fmt.{digits}
-use Rattle.cil_base.specs.Token.{token_text}
-use Rattle.cecil_top.specs.Texts.{cell_name, quoted, reply_text}
-use Rattle.cecil_top.specs.Words.{file_name}
-use Rattle.node_model.specs.declared.cell.Cell.TheVariants as cells
-use Rattle.node_model.specs.declared.key.Key.TheVariants as keys
-use Rattle.node_model.specs.declared.reply.Reply.TheVariants as replies
-use Rattle.node_model.specs.declared.slot.FaultKind.TheVariants as kinds
+use Rattle.md_tables.specs.declared.tables.TablesRefusal.TheVariants.{UnsupportedTable}
+use Rattle.pe_image.specs.declared.refusal.PeRefusal.TheVariants.{BadMagic}
+use Rattle.node_read.specs.declared.image.OpenRefusal.TheVariants as opens
+use Rattle.cecil_top.specs.Statuses.{status_text}
+use Rattle.cecil_top.specs.Words.{asked, pair_value, token_in}
+use Rattle.cecil_top.specs.declared.status.FileCause.TheVariants.{Refused}
+use Rattle.cecil_top.specs.declared.status.Status.TheVariants.{File}
+use Rattle.cecil_top.specs.declared.words.Request.TheVariants.{Dump, Show}
 
-pub token_of_type_def_1 : token_text 0x02 1 ≡ codes "02000001"
-token_of_type_def_1 = refl
-
-pub quoted_quote : quoted (0x22 ∷ []) ≡ 0x22 ∷ 0x5c ∷ 0x22 ∷ 0x22 ∷ []
-quoted_quote = refl
-
-pub third_cell_of_type_def : cell_name 2 3 ≡ codes "Extends"
-third_cell_of_type_def = refl
-
-pub run_is_no_cell : cell_name 2 4 ≡ codes "?"
-run_is_no_cell = refl
-
-pub absent_module : reply_text (replies.Absent (record { table = 0; rid = 1 })) ≡ codes "absent 00000001"
-unfolding reply_text
-absent_module = refl
-
-pub bad_name : reply_text (replies.Fault (record { key = keys.Row (record { table = 2; rid = 1 }); kind = kinds.BadRow; column = 1 }))
-    ≡ codes "fault row 02000001 BadRow 1"
-unfolding reply_text digits
-bad_name = refl
-
-pub two_filled : reply_text (replies.Filled 2) ≡ codes "filled 2"
-unfolding reply_text digits
-two_filled = refl
-
-pub row_without_a_name : reply_text (replies.Row (record { token = record { table = 8; rid = 3 }; cells = cells.NoRef ∷ [] }))
-    ≡ codes "? 08000003 ?=none"
-unfolding reply_text
-row_without_a_name = refl
-
-pub dump_a_file : file_name (codes "dump" ∷ codes "small.dll" ∷ []) ≡ Some (codes "small.dll")
+pub dump_a_file : asked (codes "dump" ∷ codes "small.dll" ∷ []) ≡ Some (codes "small.dll", Dump)
 dump_a_file = refl
 
-pub dots-are-no-name : file_name (codes "dump" ∷ codes ".." ∷ []) ≡ None
+pub dots-are-no-name : asked (codes "dump" ∷ codes ".." ∷ []) ≡ None
 dots-are-no-name = refl
 
-pub show-is-no-word-yet : file_name (codes "show" ∷ codes "small.dll" ∷ []) ≡ None
-show-is-no-word-yet = refl
+pub show_a_row : asked (codes "show" ∷ codes "small.dll" ∷ codes "0200000A" ∷ [])
+    ≡ Some (codes "small.dll", Show (record { table = 2; rid = 10 }))
+unfolding token_in pair_value
+show_a_row = refl
+
+pub digits_in_either_case : token_in (codes "2aBcDeF0") ≡ Some (record { table = 0x2a; rid = 0xbcdef0 })
+unfolding token_in pair_value
+digits_in_either_case = refl
+
+pub seven-digits-are-no-token : token_in (codes "2000001") ≡ None
+unfolding token_in
+seven-digits-are-no-token = refl
+
+pub magic_is_told : status_text (File (codes "a.dll") (Refused (opens.Pe (BadMagic 263))))
+    ≡ codes "cecil: file a.dll: refused 4 BadMagic(263)"
+unfolding digits
+magic_is_told = refl
+
+pub table_is_told : status_text (File (codes "a.dll") (Refused (opens.Tables (UnsupportedTable 48))))
+    ≡ codes "cecil: file a.dll: refused 11 UnsupportedTable(48)"
+unfolding digits
+table_is_told = refl

@@ -1,7 +1,6 @@
-pub mod Texts
-pub mod Dump
-pub mod Asked
+pub mod Words
+pub mod Lines
+pub mod Asking
 pub mod Inspect
 pub mod Statuses
 pub mod Steps
-pub mod Words

@@ -1,17 +1,29 @@
--- The two halves of a run: making the dump of a file, and writing it.
-use Rattle.std.specs.Prelude.{◌≡◌, ℕ, ◌^◌, ◌++◌, List, Option, Some, None, length, nat_lt, take, true, false}
+-- The two halves of a run: making the lines of a file, and writing them.
+use Rattle.std.specs.Prelude.{◌≡◌, ◌≢◌, ◌⊎◌, ℕ, ◌++◌, List, Option, Some, None, Result, Ok, Err, take}
 use Rattle.cil_outside.specs.declared.files.NamedFile.{NamedFile}
-use Rattle.pe_image.specs.Thin.{is_thin}
-use Rattle.cecil_top.specs.Dump.{dump}
-use Rattle.cecil_top.specs.Inspect.{Told, Untold, NoFile, Holds, Answers}
+use Rattle.node_read.specs.Image.{IsImageFile, RefusesImage}
+use Rattle.node_read.specs.declared.image.OpenRefusal.{OpenRefusal}
+use Rattle.node_read.specs.declared.image.OpenRefusal.TheVariants as opens
+use Rattle.cecil_top.specs.Inspect.{Answers, IsReadImage}
+use Rattle.cecil_top.specs.Lines.{lines_of}
 use Rattle.cecil_top.specs.declared.status.Status.{Status}
 use Rattle.cecil_top.specs.declared.status.Status.TheVariants as ends
+use Rattle.cecil_top.specs.declared.status.FileCause.TheVariants.{Refused}
+use Rattle.cecil_top.specs.declared.words.Request.{Request}
 
--- the text is the dump of the told file, which is thin and within the limit
-abbrev pub IsDump : Told → List ℕ → Type 0
-IsDump Untold text = Unit {0}
-IsDump NoFile text = ⊥
-IsDump (Holds b) text = (nat_lt (2 ^ 26) (length b) ≡ false) × (is_thin b ≡ true) × (text ≡ dump b)
+-- what making the lines of a file answers: its text, or its refusal, but for want of memory
+abbrev pub Makes : Result (List ℕ) OpenRefusal → List ℕ → Request → Type 0
+Makes (Ok text) b request = IsImageFile b × (text ≡ lines_of b request)
+Makes (Err refusal) b request = RefusesImage b refusal
+
+-- the text is the lines of the image that was read
+abbrev pub IsLines : Option (List NamedFile) → List ℕ → Request → List ℕ → Type 0
+IsLines files name request text = (b : List ℕ) × IsReadImage files name b × (text ≡ lines_of b request)
+
+-- the status of a file that is not opened: its refusal, or want of memory
+abbrev pub IsRefused : OpenRefusal → List ℕ → Status → Type 0
+IsRefused refusal name status =
+    ((refusal ≢ opens.NoMemory) × (status ≡ ends.File name (Refused refusal))) ⊎ (status ≡ ends.NoMemory)
 
 -- a status with which reading may end
 abbrev pub Ends : Option (List NamedFile) → List ℕ → Status → Type 0

@@ -1,78 +1,54 @@
-ghost use Rattle.std.specs.Prelude.{◌≡◌, ◌++◌, ◌<◌, ◌^◌, [], IfOk, OnOk, true};
-ghost use Rattle.pe_image.specs.Thin.{is_thin};
-ghost use Rattle.node_model.specs.Edits.{edits};
-ghost use Rattle.cecil_top.specs.Asked.{IsAsked};
-ghost use Rattle.cecil_top.specs.Dump.{Dumps, dump, row_line, type_lines};
+ghost use Rattle.std.specs.Prelude.{◌≡◌, ◌++◌, [], OnOk};
+ghost use Rattle.std.specs.List.{flat_map};
+ghost use Rattle.lazy_core.specs.History.{edits};
+ghost use Rattle.cecil_top.specs.Asking.{IsAsked};
+ghost use Rattle.cecil_top.specs.Lines.{dump, listed, row_line};
 
-use crate::ask::ask;
-use crate::cell_name::{MODULE, TYPE_DEF};
-use crate::reply::reply_text;
-use cil_base::{Bytes, List, NoMemory, Token};
+use crate::line::{add_line, reply_of};
+use cil_base::{Bytes, NoMemory, Token};
 use lazy_core::Core;
-use node_model::{By, Query};
-use node_read::{Image, OpenRefusal};
+use md_schema::table;
+use node_model::{Query, Reply};
 use std::alloc::Global;
-use std::sync::Arc;
 
-/// Adds the line of the reply to a row. The one caller's steps are numbered by the rows.
-fn add_row(alloc: Global, dump: &mut Bytes, core: &mut Core, token: Token) -> Result<(), NoMemory>
+/// Adds the lines of rows.
+fn add_rows(
+    alloc: Global,
+    text: &mut Bytes,
+    core: &mut Core,
+    tokens: &[Token],
+) -> Result<(), NoMemory>
     requires { edits core.old.1 ≡ [] }
-    ensures line { OnOk result (dump.new ≡ dump.old ++ row_line core.old.0 token.table token.rid) }
-    ensures asked { IsAsked core.old core.new }
+    ensures { OnOk result (text.new ≡ text.old ++ flat_map (row_line core.old.0) tokens.now) }
 {
-    let by = By {
-        caller: 0,
-        command: 0,
-        step: u64::from(token.rid),
-    };
-    let said = ask(alloc, core, by, &Query::Row(token))?;
-    let text = reply_text(alloc, &said)?;
-    dump.extend(text.as_slice())?;
-    dump.push(b'\n')
-}
-
-/// Adds the lines of the TypeDef rows, of which there are so many.
-#[tactic(auto, using(crate::proofs::DumpLemmas::added_line))]
-fn add_types(alloc: Global, dump: &mut Bytes, core: &mut Core, types: u32) -> Result<(), NoMemory>
-    requires unedited { edits core.old.1 ≡ [] }
-    requires types { types < 2 ^ 24 }
-    ensures { OnOk result (dump.new ≡ dump.old ++ type_lines core.old.0 types) }
-{
-    for number in 0..types {
-        let token = Token {
-            table: TYPE_DEF,
-            rid: number + 1,
-        };
-        add_row(alloc, dump, core, token)?;
+    for token in tokens {
+        add_line(alloc, text, core, &Query::Row(*token))?;
     }
     Ok(())
 }
 
-/// The dump of an image.
-#[tactic(auto, unfolding(crate::specs::Dump::dump), using(crate::proofs::ThinLemmas::thin_types))]
-fn dump_image(alloc: Global, image: Image) -> Result<Bytes, NoMemory>
-    requires { is_thin image ≡ true }
-    ensures { IfOk result (λ text. text ≡ dump image) }
+/// The tokens of a list that was asked for; none of another reply.
+fn listed(said: &Reply) -> &[Token]
+    ensures { result.now ≡ listed said.now }
 {
-    let types = image.rows(TYPE_DEF);
-    let mut core = Core::open(alloc, Arc::new(alloc, image)?)?;
-    let mut dump = List::new(alloc);
-    let first = Token {
-        table: MODULE,
-        rid: 1,
-    };
-    add_row(alloc, &mut dump, &mut core, first)?;
-    add_types(alloc, &mut dump, &mut core, types)?;
-    Ok(dump)
+    match said {
+        Reply::Tokens(_, tokens) => tokens.as_slice(),
+        _ => &[],
+    }
 }
 
-/// The dump of a file, which is moved in: the line of the first Module row and those of all TypeDef rows.
-pub(crate) fn dump(alloc: Global, file: Vec<u8>) -> Result<Bytes, OpenRefusal>
-    ensures { Dumps result file.items }
+/// Adds the lines of an image: that of the first Module row, and those of all TypeDef rows (ECMA-335 II.22.30,
+/// II.22.37).
+#[tactic(auto, unfolding(crate::specs::Lines::dump))]
+pub(crate) fn add_dump(alloc: Global, text: &mut Bytes, core: &mut Core) -> Result<(), NoMemory>
+    requires { edits core.old.1 ≡ [] }
+    ensures { OnOk result (text.new ≡ text.old ++ dump core.old.0) }
 {
-    let image = Image::open(file)?;
-    match dump_image(alloc, image) {
-        Ok(text) => Ok(text),
-        Err(NoMemory) => Err(OpenRefusal::NoMemory),
-    }
+    let first = Token {
+        table: table::MODULE,
+        rid: 1,
+    };
+    add_line(alloc, text, core, &Query::Row(first))?;
+    let types = reply_of(alloc, core, &Query::Members(Token::ROOT, table::TYPE_DEF))?;
+    add_rows(alloc, text, core, listed(&types))
 }

@@ -1,16 +1,20 @@
 //! What the program does: it takes the words of a command line, a folder and an outlet, and answers a status. The words
-//! `dump FILE` print the rows of the tables Module and TypeDef (ECMA-335 II.22.30, II.22.37) of an image, one line each.
+//! `dump FILE` print the rows of the types of an image, and `show FILE TOKEN` all that hangs on a row (ECMA-335 II.22),
+//! one line each.
 #![tactic(auto)]
 
 mod ask;
-mod cell_name;
 mod dump;
-mod reply;
+mod line;
+mod make;
+mod promise;
+mod refusal;
 mod run;
+mod show;
 mod status;
-mod text;
 mod words;
 
 pub use node_read::OpenRefusal;
+pub use promise::inspect_sound;
 pub use run::inspect;
 pub use status::{FileCause, Status, status_line};

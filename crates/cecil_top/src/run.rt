@@ -1,15 +1,15 @@
-ghost use Rattle.std.specs.Prelude.{◌≡◌, ◌≤◌, ◌⊎◌, ◌↔◌, Err, IfErr, IfOk, IfSome, None, Some, map, string_bytes};
+ghost use Rattle.std.specs.Prelude.{◌≡◌, ◌≤◌, ◌⊎◌, ◌↔◌, Err, IfErr, IfOk, IfSome, None, map, string_bytes};
 ghost use Rattle.cil_outside.specs.Causes.{Rose};
-ghost use Rattle.cecil_top.specs.Inspect.{Answers, Completes, Writes, held, told};
-ghost use Rattle.cecil_top.specs.Steps.{Ends, IsDump, Sends};
-ghost use Rattle.cecil_top.specs.Words.{file_name};
+ghost use Rattle.cecil_top.specs.Inspect.{Answers, Completes, TellsFaults, Writes};
+ghost use Rattle.cecil_top.specs.Steps.{Ends, IsLines, IsRefused, Sends};
+ghost use Rattle.cecil_top.specs.Words.{asked};
 
-use crate::dump::dump;
+use crate::make::file_lines;
 use crate::status::{FileCause, Status};
-use crate::words::file_name;
+use crate::words::{Request, asked};
 use cil_base::{Bytes, List, NoMemory};
 use cil_outside::{Folder, Got, Outlet, Sent};
-use node_read::OpenRefusal;
+use node_read::{OpenRefusal, image_is_not_refused};
 use std::alloc::Global;
 
 /// The greatest length of a file that is read, in bytes.
@@ -25,9 +25,24 @@ fn refusal(alloc: Global, name: &str, cause: FileCause) -> Status
     }
 }
 
-/// The dump of the file of a name, or the status that reading it ends with.
-fn prepare<F: Folder>(alloc: Global, folder: &mut F, name: &str) -> Result<Bytes, Status>
-    ensures text { IfOk result (λ text. IsDump (told (F.files folder.old) (Some name.now)) text) }
+/// The status of a file that is not opened.
+fn refused(alloc: Global, name: &str, cause: OpenRefusal) -> Status
+    ensures { IsRefused cause name.now result }
+{
+    match cause {
+        OpenRefusal::NoMemory => Status::NoMemory,
+        _ => refusal(alloc, name, FileCause::Refused(cause)),
+    }
+}
+
+/// The lines that are asked of the file of a name, or the status that reading it ends with.
+fn prepare<F: Folder>(
+    alloc: Global,
+    folder: &mut F,
+    name: &str,
+    request: Request,
+) -> Result<Bytes, Status>
+    ensures text { IfOk result (λ text. IsLines (F.files folder.old) name.now request text) }
     ensures status { IfErr result (λ status. Ends (F.files folder.old) name.now status) }
     ensures read { result ≡ Err Status.ReadFault → Rose (F.faults folder.old) (F.faults folder.new) }
     ensures files { F.files folder.new ≡ F.files folder.old }
@@ -40,14 +55,9 @@ fn prepare<F: Folder>(alloc: Global, folder: &mut F, name: &str) -> Result<Bytes
         Ok(Got::Failed) => return Err(Status::ReadFault),
         Err(NoMemory) => return Err(Status::NoMemory),
     };
-    match dump(alloc, bytes.into_vec()) {
+    match file_lines(alloc, bytes.into_vec(), request) {
         Ok(text) => Ok(text),
-        Err(OpenRefusal::NotThin) => Err(refusal(
-            alloc,
-            name,
-            FileCause::Refused(OpenRefusal::NotThin),
-        )),
-        Err(OpenRefusal::NoMemory) => Err(Status::NoMemory),
+        Err(cause) => Err(refused(alloc, name, cause)),
     }
 }
 
@@ -64,8 +74,9 @@ fn send<O: Outlet>(alloc: Global, out: &mut O, text: &[u8]) -> Status
     }
 }
 
-/// Does what the words say, over this folder and this outlet: `dump FILE` writes the reply to Row of the first Module row and of
-/// each TypeDef row of the image, one line each.
+/// Does what the words say, over this folder and this outlet: `dump FILE` writes the reply to Row of the first Module
+/// row and of each TypeDef row that the image lists, and `show FILE TOKEN` the reply to Row of the token and, unless it
+/// is absent, those of each further part that its table has; one line each.
 pub fn inspect<F: Folder, O: Outlet>(
     alloc: Global,
     words: &[String],
@@ -73,23 +84,27 @@ pub fn inspect<F: Folder, O: Outlet>(
     out: &mut O,
 ) -> Status
     // exactly where the words are not in the grammar
-    ensures usage { result ≡ Status.Usage ↔ file_name (map string_bytes words.now) ≡ None }
+    ensures usage { result ≡ Status.Usage ↔ asked (map string_bytes words.now) ≡ None }
     // the status that the named file calls for, exactly, but for faults and want of memory
-    ensures file { IfSome (file_name (map string_bytes words.now)) (λ name. Answers (F.files folder.old) name result) }
-    // Ok adds the dump of the named file, which is a thin image; another status nothing, but for what a failed write left
-    ensures text { Writes (told (F.files folder.old) (file_name (map string_bytes words.now))) (O.written out.old) (O.written out.new) result }
-    ensures read { result ≡ Status.ReadFault → Rose (F.faults folder.old) (F.faults folder.new) }
-    ensures write { result ≡ Status.WriteFault → Rose (O.faults out.old) (O.faults out.new) }
+    ensures file { IfSome (asked (map string_bytes words.now)) (λ a. Answers (F.files folder.old) a.0 result) }
+    // Ok adds the lines that are asked of the named file, which is an image; another status nothing, but for what a
+    // failed write left
+    ensures text { Writes (F.files folder.old) (asked (map string_bytes words.now))
+        (O.written out.old) (O.written out.new) result }
+    ensures faults { TellsFaults (F.faults folder.old) (F.faults folder.new) (O.faults out.old) (O.faults out.new)
+        result }
     // where no count of faults rose, a file that calls for Ok gets it, but for want of memory
-    ensures complete { (Rose (F.faults folder.old) (F.faults folder.new) → ⊥) → (Rose (O.faults out.old) (O.faults out.new) → ⊥)
-        → Completes (F.files folder.old) (file_name (map string_bytes words.now)) result }
+    ensures complete { (Rose (F.faults folder.old) (F.faults folder.new) → ⊥)
+        → (Rose (O.faults out.old) (O.faults out.new) → ⊥)
+        → Completes (F.files folder.old) (asked (map string_bytes words.now)) result }
     ensures files { F.files folder.new ≡ F.files folder.old }
-    ensures later { (F.faults folder.old ≤ F.faults folder.new) × (O.faults out.old ≤ O.faults out.new) }
 {
-    let Some(name) = file_name(words) else {
+    // for its law: an image has no refusal
+    image_is_not_refused();
+    let Some((name, request)) = asked(words) else {
         return Status::Usage;
     };
-    match prepare(alloc, folder, name) {
+    match prepare(alloc, folder, name, request) {
         Ok(text) => send(alloc, out, text.as_slice()),
         Err(status) => status,
     }

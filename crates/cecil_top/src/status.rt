@@ -1,6 +1,7 @@
 ghost use Rattle.std.specs.Prelude.{◌≡◌, ◌++◌, IfOk, OnOk};
 ghost use Rattle.cecil_top.specs.Statuses.{number_of, status_text, file_text, cause_text};
 
+use crate::refusal::add_refusal;
 use cil_base::{Bytes, List, NoMemory, escape};
 use node_read::OpenRefusal;
 use std::alloc::Global;
@@ -23,17 +24,31 @@ pub enum Status {
 }
 
 /// Why a file could not be taken.
-#[derive(Drop)]
+#[derive(Clone, Copy)]
 pub enum FileCause {
     /// The folder has no file of this name.
     Missing,
     /// The file has more than 2^26 bytes.
     TooLong,
-    /// The file is no image that is read here.
+    /// The file is no image.
     Refused(OpenRefusal),
 }
 
 impl Status {
+    /// An equal status of its own.
+    pub fn copy(&self) -> Result<Status, NoMemory>
+        ensures { IfOk result (λ copy. copy ≡ self.now) }
+    {
+        match self {
+            Status::Ok => Ok(Status::Ok),
+            Status::Usage => Ok(Status::Usage),
+            Status::File(name, cause) => Ok(Status::File(name.copy()?, *cause)),
+            Status::ReadFault => Ok(Status::ReadFault),
+            Status::WriteFault => Ok(Status::WriteFault),
+            Status::NoMemory => Ok(Status::NoMemory),
+        }
+    }
+
     /// The number that the program ends with.
     pub fn number(&self) -> u8
         ensures { result ≡ number_of self.now }
@@ -66,22 +81,30 @@ pub fn status_line(alloc: Global, status: &Status) -> Result<Bytes, NoMemory>
     }
 }
 
+/// Adds what is said of a file, after its name.
+fn add_cause(text: &mut Bytes, cause: &FileCause) -> Result<(), NoMemory>
+    ensures { OnOk result (text.new ≡ text.old ++ cause_text cause.now) }
+{
+    match cause {
+        FileCause::Missing => text.extend(b": missing"),
+        FileCause::TooLong => text.extend(b": too long"),
+        FileCause::Refused(refusal) => {
+            text.extend(b": refused ")?;
+            add_refusal(text, *refusal)
+        }
+    }
+}
+
 /// The line of a file that could not be taken.
 fn file_line(alloc: Global, name: &[u8], cause: &FileCause) -> Result<Bytes, NoMemory>
     ensures { IfOk result (λ line. line ≡ file_text name.now cause.now) }
 {
-    let said: &[u8] = match cause {
-        FileCause::Missing => b": missing",
-        FileCause::TooLong => b": too long",
-        FileCause::Refused(OpenRefusal::NotThin) => b": refused 14 NotThin",
-        FileCause::Refused(OpenRefusal::NoMemory) => return List::from_slice(
-            alloc,
-            b"cecil: no memory",
-        ),
-    };
+    if let FileCause::Refused(OpenRefusal::NoMemory) = cause {
+        return List::from_slice(alloc, b"cecil: no memory");
+    }
     let name = escape(alloc, name)?;
     let mut line = List::from_slice(alloc, b"cecil: file ")?;
     line.extend(name.as_slice())?;
-    line.extend(said)?;
+    add_cause(&mut line, cause)?;
     Ok(line)
 }

@@ -12,6 +12,17 @@ pub struct NamedFile {
     pub bytes: Bytes,
 }
 
+impl NamedFile {
+    /// An equal file of its own.
+    pub fn copy(&self) -> Result<NamedFile, NoMemory>
+        ensures { IfOk result (λ copy. copy ≡ self.now) }
+    {
+        let name = self.name.copy()?;
+        let bytes = self.bytes.copy()?;
+        Ok(NamedFile { name, bytes })
+    }
+}
+
 /// The bytes of the first file of this name.
 fn content<'a>(files: &'a [NamedFile], name: &[u8]) -> Option<&'a [u8]>
     ensures { option_copied result ≡ content_of files.now name.now }

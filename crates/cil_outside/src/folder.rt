@@ -19,6 +19,20 @@ pub enum Got {
     Failed,
 }
 
+impl Got {
+    /// An equal answer of its own.
+    pub fn copy(&self) -> Result<Got, NoMemory>
+        ensures { IfOk result (λ copy. copy ≡ self.now) }
+    {
+        match self {
+            Got::Found(bytes) => Ok(Got::Found(bytes.copy()?)),
+            Got::Missing => Ok(Got::Missing),
+            Got::TooLong => Ok(Got::TooLong),
+            Got::Failed => Ok(Got::Failed),
+        }
+    }
+}
+
 /// A folder of files by name.
 pub trait Folder {
     /// The files, where the folder tells them.

@@ -1,8 +1,9 @@
 use crate::digest::{EMPTY, go_on};
 use crate::number::{byte, number, place};
-use crate::run::{Outcome, Setting, run};
+use crate::run::{Outcome, Setting, content, run};
 use cecil_top::status_line;
 use cil_base::NoMemory;
+use cil_outside::Got;
 use std::alloc::Global;
 use std::fs;
 use std::io::Read;
@@ -17,6 +18,8 @@ enum Runs {
     Cuts(usize, usize),
     /// One for each place from the first up to the second, which is set to the byte.
     Bytes(usize, usize, u8),
+    /// None: what the folder gives within a limit of bytes is told.
+    Content(u64),
 }
 
 /// The bytes of a file of the current folder; none where it cannot be read.
@@ -70,6 +73,7 @@ fn change(setting: &mut Setting, text: &str) -> Result<Option<Runs>, NoMemory> {
         Some("read") => setting.failing_reads.push(number(first))?,
         Some("write") => setting.failing_writes.push(number(first))?,
         Some("sound") => setting.sound = true,
+        Some("content") => return Ok(Some(Runs::Content(number(first)))),
         Some("cuts") => return Ok(Some(Runs::Cuts(place(first), place(second)))),
         Some("bytes") => {
             let byte = byte(parts.next());
@@ -102,6 +106,13 @@ fn setting<R: Files>(alloc: Global, rt: &R, line: &str) -> Result<(Setting, Runs
     Ok((setting, runs))
 }
 
+/// A digest that goes on by the number of a run's status, its line and the text.
+fn digest(alloc: Global, sum: u64, outcome: &Outcome) -> Result<u64, NoMemory> {
+    let line = status_line(alloc, &outcome.status)?;
+    let number = outcome.status.number();
+    Ok(go_on(sum, number, line.as_slice(), outcome.text.as_slice()))
+}
+
 /// The digest of the runs over all lengths from the greatest down to the least.
 fn cuts(alloc: Global, setting: &mut Setting, from: usize, to: usize) -> Result<u64, NoMemory> {
     let whole = match &setting.bytes {
@@ -114,7 +125,7 @@ fn cuts(alloc: Global, setting: &mut Setting, from: usize, to: usize) -> Result<
         bytes.truncate(length);
         setting.bytes = Some(bytes);
         let outcome = run(alloc, setting)?;
-        sum = go_on(sum, outcome.status.number(), outcome.text.as_slice());
+        sum = digest(alloc, sum, &outcome)?;
     }
     Ok(sum)
 }
@@ -135,7 +146,7 @@ fn bytes(
         };
         set(&mut setting.bytes, place, byte);
         let outcome = run(alloc, setting)?;
-        sum = go_on(sum, outcome.status.number(), outcome.text.as_slice());
+        sum = digest(alloc, sum, &outcome)?;
         set(&mut setting.bytes, place, old);
     }
     Ok(sum)
@@ -143,7 +154,8 @@ fn bytes(
 
 /// The lines of one run.
 fn lines(alloc: Global, case: u64, outcome: &Outcome) -> Result<Vec<u8>, NoMemory> {
-    let line = status_line(alloc, &outcome.status)?;
+    let status = outcome.status.copy()?;
+    let line = status_line(alloc, &status)?;
     let head = format!(in alloc; "{case} {}", outcome.status.number())?;
     let mut text = Vec::from_slice(alloc, head.as_bytes())?;
     if !line.is_empty() {
@@ -161,12 +173,24 @@ fn lines(alloc: Global, case: u64, outcome: &Outcome) -> Result<Vec<u8>, NoMemor
     Ok(text)
 }
 
+/// The line of what a folder gave.
+fn told(alloc: Global, case: u64, got: &Got) -> Result<Vec<u8>, NoMemory> {
+    let text = match got {
+        Got::Found(bytes) => format!(in alloc; "{case} found {}\n", bytes.len())?,
+        Got::Missing => format!(in alloc; "{case} missing\n")?,
+        Got::TooLong => format!(in alloc; "{case} too long\n")?,
+        Got::Failed => format!(in alloc; "{case} failed\n")?,
+    };
+    Ok(Vec::from_slice(alloc, text.as_bytes())?)
+}
+
 /// What is printed of a case.
 pub fn answer(rt: &HostRuntime, case: u64, line: &str) -> Result<Vec<u8>, NoMemory> {
     let alloc = rt.alloc();
     let (mut setting, runs) = setting(alloc, rt, line)?;
     let sum = match runs {
         Runs::Once => return lines(alloc, case, &run(alloc, &setting)?),
+        Runs::Content(limit) => return told(alloc, case, &content(alloc, &setting, limit)?),
         Runs::Cuts(from, to) => cuts(alloc, &mut setting, from, to)?,
         Runs::Bytes(from, to, byte) => bytes(alloc, &mut setting, from, to, byte)?,
     };

@@ -1,7 +1,8 @@
-//! Runs `inspect` over cases of standard input, one a line: `FILE; CHANGE; .. -- WORD WORD ..`, and prints of each its number, the
-//! number of its status and the status's line, then the text with two spaces before each line.
+//! Runs `inspect` over cases of standard input, one a line: `FILE; CHANGE; .. -- WORD WORD ..`, and prints of each its
+//! number, the number of its status and the status's line, then the text with two spaces before each line.
 //!
-//! FILE is a file of the current folder, which the run's folder has alone, or `-` for a folder without files. A change is
+//! FILE is a file of the current folder, which the run's folder has alone, or `-` for a folder without files. A change
+//! is
 //!
 //! | change | what it does |
 //! |---|---|
@@ -11,8 +12,9 @@
 //! | `twice BYTE` | adds a second file of the name, which is this byte alone |
 //! | `read CALL` | the read of this number fails |
 //! | `write CALL` | the write of this number fails |
+//! | `content LIMIT` | runs nothing, and prints what the folder gives for FILE within a limit of bytes |
 //! | `sound` | a folder and an outlet of which no call fails |
-//! | `cuts FROM TO` | runs once for each length, and prints a digest of all statuses and texts |
+//! | `cuts FROM TO` | runs once for each length, and prints a digest of all statuses, lines and texts |
 //! | `bytes FROM TO BYTE` | runs once with each of these places set to the byte, and prints the digest |
 #![tactic(auto)]
 

@@ -1,6 +1,8 @@
-use cecil_top::{Status, inspect};
+use cecil_top::{Status, inspect, inspect_sound};
 use cil_base::{List, NoMemory};
-use cil_outside::{Folder, MemoryOutlet, NamedFile, Outlet, SoundFolder, SoundOutlet, TableFolder};
+use cil_outside::{
+    Folder, Got, MemoryOutlet, NamedFile, Outlet, SoundFolder, SoundOutlet, TableFolder,
+};
 use std::alloc::Global;
 
 /// The files of a run's folder, the calls that fail, and the words.
@@ -36,9 +38,17 @@ fn files(alloc: Global, setting: &Setting) -> Result<Vec<NamedFile>, NoMemory> {
         files.push(named(alloc, setting, bytes.as_slice())?)?;
     }
     if let Some(byte) = setting.second {
-        files.push(named(alloc, setting, &[byte])?)?;
+        files.push(named(alloc, setting, &[byte])?.copy()?)?;
     }
     Ok(files)
+}
+
+/// What the folder gives for the setting's file, within a limit of bytes.
+pub fn content(alloc: Global, setting: &Setting, limit: u64) -> Result<Got, NoMemory> {
+    let files = files(alloc, setting)?;
+    let reads = Vec::from_slice(alloc, setting.failing_reads.as_slice())?;
+    let mut folder = TableFolder::new(files, reads);
+    folder.read(alloc, setting.name.as_str(), limit)?.copy()
 }
 
 /// Runs `inspect` over a folder and an outlet by their traits alone.
@@ -57,7 +67,7 @@ pub fn run(alloc: Global, setting: &Setting) -> Result<Outcome, NoMemory> {
     if setting.sound {
         let mut folder = SoundFolder::new(files);
         let mut out = SoundOutlet::new(alloc);
-        let status = inspected(alloc, setting, &mut folder, &mut out);
+        let status = inspect_sound(alloc, setting.words.as_slice(), &mut folder, &mut out);
         let text = Vec::from_slice(alloc, out.written())?;
         return Ok(Outcome { status, text });
     }

@@ -31,7 +31,7 @@ answers_grow b c (x ∷ xs) =
     answers_grow b (after b c x) xs
     ∙ append_assoc c.answers (answered b c.history c.wants x ∷ []) (further b (after b c x) xs)
 
-drop_at : (xs : List Step) (n : ℕ) (x : Step) → slice_get xs n ≡ Some x → drop n xs ≡ x ∷ drop (suc n) xs
+pub drop_at : (xs : List Step) (n : ℕ) (x : Step) → slice_get xs n ≡ Some x → drop n xs ≡ x ∷ drop (suc n) xs
 drop_at [] n x e = absurd cc
 drop_at (y ∷ xs) zero x e = let same : y ≡ x = cc in ap (λ z. z ∷ xs) same
 drop_at (y ∷ xs) (suc n) x e = drop_at xs n x e
@@ -52,7 +52,7 @@ many_before b h xs n x e =
     let within : n < length xs = slice_get_within xs n x e in
     as_many b h (take n xs) ∙ length-take-le n xs (omega arith)
 
-at_seam : (ts : List StepAnswer) (a : StepAnswer) (more : List StepAnswer) (n : ℕ) → length ts ≡ n → slice_get (ts ++ a ∷ more) n ≡ Some a
+pub at_seam : {A : Type 0} (ts : List A) (a : A) (more : List A) (n : ℕ) → length ts ≡ n → slice_get (ts ++ a ∷ more) n ≡ Some a
 at_seam [] a more n e = subst (λ k. slice_get (a ∷ more) k ≡ Some a) e refl
 at_seam (c ∷ ts) a more zero e = absurd (omega arith)
 at_seam (c ∷ ts) a more (suc n) e = at_seam ts a more n (omega arith)

@@ -1,45 +1,20 @@
 -- Pushing a fill and its slot.
-use Rattle.std.proofs.Common.{◌≡◌, refl, sym, ◌∙◌, ap, subst, ℕ, Bool, true, false, List, [], ◌∷◌, ◌++◌, Option, Some, None, cond, if◌then◌else◌, ◌||◌, suc, length, find, option_map, is_some, append-nil, append_assoc, arith}
+use Rattle.std.proofs.Common.{◌≡◌, refl, sym, ◌∙◌, ap, subst, ℕ, Bool, true, false, List, [], ◌∷◌, ◌++◌, Option, Some, None, cond, if◌then◌else◌, ◌||◌, find, option_map, append-nil, append_assoc}
 use Rattle.std.specs.List.{list_any}
-use Rattle.cil_base.specs.Token.{Token}
-use Rattle.node_model.specs.Edits.{edits}
-use Rattle.node_model.specs.Filled.{filled, is_fill_of}
-use Rattle.node_model.specs.Held.{held}
+use Rattle.node_model.specs.Graph.{Graph}
 use Rattle.node_model.specs.Immediate.{read}
-use Rattle.node_model.specs.Keys.{is_row, same_key}
-use Rattle.node_model.specs.Legal.{LegalAfter, MayFollow}
-use Rattle.node_model.specs.Reach.{reach, fault_of}
-use Rattle.node_model.specs.Replies.{fills, reply, row_reply, replied, or_fault}
+use Rattle.node_model.specs.Keys.{same_key}
 use Rattle.node_model.specs.declared.entry.By.{By}
 use Rattle.node_model.specs.declared.entry.Entry.{Entry}
 use Rattle.node_model.specs.declared.entry.Entry.TheVariants.{Fill}
 use Rattle.node_model.specs.declared.entry.Why.{Why}
 use Rattle.node_model.specs.declared.key.Key.{Key}
-use Rattle.node_model.specs.declared.key.Key.TheVariants as keys
-use Rattle.node_model.specs.declared.query.Query.TheVariants as queries
-use Rattle.node_model.specs.declared.reply.Reply.TheVariants as replies
-use Rattle.node_model.specs.declared.row.Value.TheVariants as values
 use Rattle.node_model.specs.declared.slot.Slot.{Slot}
-use Rattle.node_model.specs.declared.slot.Slot.TheVariants as slots
+use Rattle.lazy_core.specs.History.{filled, graph_after, is_fill_of}
+use Rattle.lazy_core.specs.Legal.{LegalAfter, MayFollow}
 use Rattle.lazy_core.specs.Slots.{Holds, kept, slot_of}
-use Rattle.lazy_core.specs.Steps.{peeked}
-use Rattle.lazy_core.specs.declared.wanted.Peek.TheVariants.{Ready, Need}
-
-pub no_edits : (h : List Entry) → edits h ≡ []
-no_edits [] = refl
-no_edits (Fill by point why key ∷ h) = no_edits h
-
-pub all_fills : (h : List Entry) → fills h ≡ length h
-unfolding fills
-all_fills [] = refl
-all_fills (Fill by point why key ∷ h) = ap suc (all_fills h)
-
--- keys that are the same are equal
-pub same-is : (q k : Key) → same_key q k ≡ true → q ≡ k
-same-is (keys.Row a) (keys.Row b) e = grind arith
-
-pub same_self : (k : Key) → same_key k k ≡ true
-same_self (keys.Row a) = grind arith
+use Rattle.lazy_core.proofs.HistoryLemmas.{graph_is, same_graph}
+use Rattle.lazy_core.proofs.KeyLemmas.{same-is}
 
 -- a fill more
 pub filled_more : (b : List ℕ) (h : List Entry) (by : By) (point : ℕ) (why : Why) (k q : Key)
@@ -90,13 +65,13 @@ pub kept_more : (b : List ℕ) (h : List Entry) (by : By) (point : ℕ) (why : W
 unfolding kept
 kept_more b h by point why k q =
     by_cases (filled b h q) (same_key q k) (λ e. same-is q k e)
-    ∙ ap (λ x. if x then Some (held b (edits (h ++ Fill by point why k ∷ [])) q) else None) (sym (filled_more b h by point why k q))
+    ∙ ap (λ x. if x then Some ((graph_after b (h ++ Fill by point why k ∷ [])).held q) else None) (sym (filled_more b h by point why k q))
   where
     by_cases : (x y : Bool) → (y ≡ true → q ≡ k)
-        → or_slot (if x then Some (held b (edits h) q) else None) (if y then Some (read b k) else None)
-        ≡ (if (if x then true else y) then Some (held b (edits (h ++ Fill by point why k ∷ [])) q) else None)
-    by_cases true y same = rw (no_edits h, no_edits (h ++ Fill by point why k ∷ [])) refl
-    by_cases false true same = rw (no_edits (h ++ Fill by point why k ∷ []), same refl) refl
+        → or_slot (if x then Some ((graph_after b h).held q) else None) (if y then Some (read b k) else None)
+        ≡ (if (if x then true else y) then Some ((graph_after b (h ++ Fill by point why k ∷ [])).held q) else None)
+    by_cases true y same = ap (λ (g : Graph). Some (g.held q)) (same_graph b (h ++ Fill by point why k ∷ []) h)
+    by_cases false true same = ap (λ j. Some (read b j)) (sym (same refl)) ∙ ap (λ (g : Graph). Some (g.held q)) (sym (graph_is b (h ++ Fill by point why k ∷ [])))
     by_cases false false same = refl
 
 pub legal_more : (b : List ℕ) (front h : List Entry) (e : Entry) → LegalAfter b front h → MayFollow b (front ++ h) e → LegalAfter b front (h ++ e ∷ [])
@@ -115,61 +90,19 @@ holds_more b h stored by point why k s holds next is = record {
       ∙ kept_more b h by point why k q;
 }
 
--- a query for a row that is absent, or that is there
-pub reach_absent : (b : List ℕ) (h : List Entry) (t : Token) → is_row b t ≡ false → reach b (edits h) (queries.Row t) ≡ []
-unfolding reach
-reach_absent b h t e = rw e refl
+-- what a slot says of its key
+slot_by : (x : Bool) (held s : Slot) → Some s ≡ (if x then Some held else None) → (x ≡ true) × (s ≡ held)
+slot_by true held s e = (refl, cc)
+slot_by false held s e = absurd cc
 
-pub reply_absent : (b : List ℕ) (h : List Entry) (t : Token) → is_row b t ≡ false → reply b h (queries.Row t) ≡ replies.Absent t
-unfolding reply
-reply_absent b h t e = rw e refl
-
-pub peeked_absent : (b : List ℕ) (h : List Entry) (t : Token) → is_row b t ≡ false → peeked b h (queries.Row t) ≡ Ready (replies.Absent t)
-unfolding peeked
-peeked_absent b h t e = rw (reach_absent b h t e) (ap Ready (reply_absent b h t e))
-
-pub either_way : (x : Bool) (ks : List Key) → (if x then ks else ks) ≡ ks
-either_way true ks = refl
-either_way false ks = refl
-
-pub reach_row : (b : List ℕ) (h : List Entry) (t : Token) → is_row b t ≡ true → reach b (edits h) (queries.Row t) ≡ keys.Row t ∷ []
-unfolding reach
-reach_row b h t e = rw e (ap (λ ks. keys.Row t ∷ ks) (either_way (is_some (fault_of (held b (edits h) (keys.Row t)))) []))
-
-pub reply_row : (b : List ℕ) (h : List Entry) (t : Token) → is_row b t ≡ true → reply b h (queries.Row t) ≡ row_reply (held b (edits h) (keys.Row t))
-unfolding reply
-reply_row b h t e = rw (reach_row b h t e, e) (by_slot (held b (edits h) (keys.Row t)))
-  where
-    by_slot : (s : Slot) → replied None (or_fault (fault_of s) None) (row_reply s) ≡ row_reply s
-    by_slot (slots.Value (values.Row row)) = refl
-    by_slot (slots.Fault f) = refl
-
-pub peeked_need : (b : List ℕ) (h : List Entry) (t : Token) → is_row b t ≡ true → filled b h (keys.Row t) ≡ false → peeked b h (queries.Row t) ≡ Need (keys.Row t)
-unfolding peeked
-peeked_need b h t e free = rw (reach_row b h t e, free) refl
-
-pub peeked_ready : (b : List ℕ) (h : List Entry) (t : Token) → is_row b t ≡ true → filled b h (keys.Row t) ≡ true
-    → peeked b h (queries.Row t) ≡ Ready (row_reply (held b (edits h) (keys.Row t)))
-unfolding peeked
-peeked_ready b h t e full = rw (reach_row b h t e, full) (ap Ready (reply_row b h t e))
-
-pub peeked_filled : (b : List ℕ) (h : List Entry) → peeked b h queries.Filled ≡ Ready (replies.Filled (length h))
-unfolding peeked reach reply
-peeked_filled b h = ap (λ n. Ready (replies.Filled n)) (all_fills h)
-
--- what having a slot tells, and having none
-pub has_slot : (b : List ℕ) (h : List Entry) (k : Key) (s : Slot) → kept b h k ≡ Some s → (filled b h k ≡ true) × (s ≡ held b (edits h) k)
+pub has_slot : (b : List ℕ) (h : List Entry) (k : Key) (s : Slot) → Some s ≡ kept b h k → (filled b h k ≡ true) × (s ≡ (graph_after b h).held k)
 unfolding kept
-has_slot b h k s e = by_cases (filled b h k) e
-  where
-    by_cases : (x : Bool) → (if x then Some (held b (edits h) k) else None) ≡ Some s → (x ≡ true) × (s ≡ held b (edits h) k)
-    by_cases true e = (refl, cc)
-    by_cases false e = absurd cc
+has_slot b h k s e = slot_by (filled b h k) ((graph_after b h).held k) s e
 
-pub no_slot : (b : List ℕ) (h : List Entry) (k : Key) → kept b h k ≡ None → filled b h k ≡ false
+none_by : (x : Bool) (held : Slot) → None ≡ (if x then Some held else None) → x ≡ false
+none_by true held e = absurd cc
+none_by false held e = refl
+
+pub no_slot : (b : List ℕ) (h : List Entry) (k : Key) → None ≡ kept b h k → filled b h k ≡ false
 unfolding kept
-no_slot b h k e = by_cases (filled b h k) e
-  where
-    by_cases : (x : Bool) → (if x then Some (held b (edits h) k) else None) ≡ None → x ≡ false
-    by_cases true e = absurd cc
-    by_cases false e = refl
+no_slot b h k e = none_by (filled b h k) ((graph_after b h).held k) e

@@ -1,10 +1,10 @@
 -- Steps leave a legal history.
 use Rattle.std.proofs.Common.{◌≡◌, refl, ℕ, Bool, true, false, List, [], ◌∷◌, ◌++◌, Option, Some, None, if◌then◌else◌}
 use Rattle.std.specs.List.{fold}
-use Rattle.node_model.specs.Filled.{filled}
-use Rattle.node_model.specs.Legal.{Legal}
 use Rattle.node_model.specs.declared.entry.Entry.{Entry}
 use Rattle.node_model.specs.declared.entry.Entry.TheVariants.{Fill}
+use Rattle.lazy_core.specs.History.{filled}
+use Rattle.lazy_core.specs.Legal.{Legal}
 use Rattle.lazy_core.specs.Run.{Course, after, publish_history, start, wanted_by}
 use Rattle.lazy_core.specs.RunLaws.{RunsStayLegal}
 use Rattle.lazy_core.specs.Wants.{AllMayPublish, MayPublish}

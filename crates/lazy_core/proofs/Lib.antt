@@ -1,6 +1,15 @@
-mod AnswerLemmas
-mod CoreLemmas
-mod LegalLemmas
-mod RunLemmas
-mod SlotLemmas
-mod WantedLemmas
+pub mod AnswerLemmas
+pub mod CoreLemmas
+pub mod HistoryLemmas
+pub mod KeyLemmas
+pub mod LawLemmas
+pub mod LegalLemmas
+pub mod PeekLemmas
+pub mod ReadLemmas
+pub mod ReplyLemmas
+pub mod RunLemmas
+pub mod SendLemmas
+pub mod SlotLemmas
+pub mod ValueLemmas
+pub mod WantedLemmas
+pub mod WantsLemmas

@@ -3,17 +3,15 @@ use Rattle.std.proofs.Common.{◌≡◌, refl, sym, ◌∙◌, subst, ℕ, zero,
 use Rattle.std.specs.List.{fold, list_any}
 use Rattle.std.proofs.lemmas.List.{length-append, take-append-le}
 use Rattle.std.proofs.lemmas.List.Sums.{fold_more}
-use Rattle.node_model.specs.Edits.{edits}
-use Rattle.node_model.specs.Filled.{filled}
 use Rattle.node_model.specs.Keys.{same_key}
-use Rattle.node_model.specs.Legal.{WasWanted}
-use Rattle.node_model.specs.Reach.{reach_why}
 use Rattle.node_model.specs.declared.entry.By.{By}
 use Rattle.node_model.specs.declared.entry.Entry.{Entry}
 use Rattle.node_model.specs.declared.entry.Entry.TheVariants.{Fill}
 use Rattle.node_model.specs.declared.entry.Why.{Why}
 use Rattle.node_model.specs.declared.key.Key.{Key}
 use Rattle.node_model.specs.declared.query.Query.{Query}
+use Rattle.lazy_core.specs.History.{filled, graph_after}
+use Rattle.lazy_core.specs.Legal.{WasWanted, reach_why}
 use Rattle.lazy_core.specs.Run.{Course, after, answered, history_then, publish_history, run, start, want_of, want_then, wanted_by}
 use Rattle.lazy_core.specs.Steps.{history_after, peeked}
 use Rattle.lazy_core.specs.Wants.{AllMayPublish, MayPublish}
@@ -32,7 +30,7 @@ was_more b h g p why k was =
     record {
       early = omega (arith, was.early, length-append h g);
       known = was.known;
-      reached = subst (λ t. list_any (same_key k) (reach_why b (edits t) why) ≡ true) (sym front) was.reached;
+      reached = subst (λ t. list_any (same_key k) (reach_why (graph_after b t) why) ≡ true) (sym front) was.reached;
       unfilled = subst (λ t. filled b t k ≡ false) (sym front) was.unfilled;
     }
 

@@ -1,5 +1,9 @@
-pub mod Run
-pub mod RunLaws
+pub mod History
+pub mod Legal
+pub mod Laws
 pub mod Slots
 pub mod Steps
 pub mod Wants
+pub mod Run
+pub mod RunLaws
+pub mod inner

@@ -1,8 +1,8 @@
 -- What follows of the steps alone: which answer stands where.
 use Rattle.std.specs.Prelude.{◌≡◌, ◌↔◌, ℕ, Bool, true, false, List, take, Option, Some, None, slice_get}
-use Rattle.node_model.specs.Legal.{Legal}
 use Rattle.node_model.specs.declared.entry.Entry.{Entry}
-use Rattle.lazy_core.specs.Run.{answered, run}
+use Rattle.lazy_core.specs.Legal.{Legal}
+use Rattle.lazy_core.specs.Run.{answered, run, want_then}
 use Rattle.lazy_core.specs.declared.step.Step.{Step}
 use Rattle.lazy_core.specs.declared.step.Step.TheVariants as steps
 use Rattle.lazy_core.specs.declared.step.StepAnswer.{StepAnswer}
@@ -27,11 +27,18 @@ EachIsAnswered =
     (b : List ℕ) (h : List Entry) (xs : List Step) (n : ℕ) (x : Step) → slice_get xs n ≡ Some x
     → slice_get (run b h xs).answers n ≡ Some (answered b (run b h (take n xs)).history (run b h (take n xs)).wants x)
 
+-- what a step leaves wanted stands in the place of the step, by the history after the steps before it
+abbrev pub EachWantStands : Type 0
+EachWantStands =
+    (b : List ℕ) (h : List Entry) (xs : List Step) (n : ℕ) (x : Step) → slice_get xs n ≡ Some x
+    → slice_get (run b h xs).wants n ≡ Some (want_then b (run b h (take n xs)).history x)
+
 -- a Publish is skipped exactly where the step of its number is no earlier one, or was not answered that a key is needed
 abbrev pub SkippedExactly : Type 0
 SkippedExactly =
     (b : List ℕ) (h : List Entry) (xs : List Step) (n of : ℕ) → slice_get xs n ≡ Some (steps.Publish of)
-    → (slice_get (run b h xs).answers n ≡ Some answers.Skipped) ↔ (is_needed (slice_get (take n (run b h xs).answers) of) ≡ false)
+    → (slice_get (run b h xs).answers n ≡ Some answers.Skipped)
+    ↔ (is_needed (slice_get (take n (run b h xs).answers) of) ≡ false)
 
 -- from a legal history on, the steps leave a legal one
 abbrev pub RunsStayLegal : Type 0

@@ -1,7 +1,7 @@
 -- Which wants may be published.
 use Rattle.std.specs.Prelude.{ℕ, List, [], ◌∷◌, Option, Some, None}
-use Rattle.node_model.specs.Legal.{WasWanted}
 use Rattle.node_model.specs.declared.entry.Entry.{Entry}
+use Rattle.lazy_core.specs.Legal.{WasWanted}
 use Rattle.lazy_core.specs.declared.wanted.Wanted.{Wanted}
 
 -- what is wanted, if anything, was wanted at an earlier moment of the history

@@ -1,19 +1,22 @@
 ghost use Rattle.std.specs.Prelude.{◌≡◌, [], IfOk};
-ghost use Rattle.node_model.specs.Keys.{is_row};
+ghost use Rattle.node_model.specs.Keys.{image_rows, is_key_there, is_row};
+ghost use Rattle.lazy_core.specs.History.{graph_after};
 ghost use Rattle.lazy_core.specs.Slots.{slot_of};
 ghost use Rattle.lazy_core.specs.Steps.{peeked};
+ghost use Rattle.lazy_core.specs.inner.Replies.{early_of, peeked_key};
 
-use crate::slots::{Slots, row_reply};
+use crate::slot_reply::slot_reply;
+use crate::slots::Slots;
 use crate::wanted::Peek;
 use cil_base::{List, NoMemory, Token};
-use node_model::{Entry, Key, Query, Reply};
+use node_model::{Entry, Key, Query, Reply, has_kind};
 use node_read::Image;
 use std::alloc::Global;
 use std::marker::Model;
 use std::sync::Arc;
 
-/// The core of an image. Contracts see a core as the bytes of its image and its history. At every moment the history is legal,
-/// and a key has a slot exactly where the history has filled it: what the key then holds.
+/// The core of an image. Contracts see a core as the bytes of its image and its history. At every moment the history is
+/// legal, and a key has a slot exactly where the history has filled it: what the key then holds.
 #[derive(Drop)]
 pub struct Core {
     pub(crate) image: Arc<Image>,
@@ -35,7 +38,7 @@ impl Model for Core {
 
 impl Core {
     /// The core of an image, with nothing filled.
-    #[tactic(auto, unfolding(crate::specs::Slots::slot_of, crate::specs::Slots::kept, node_model::specs::Filled::filled))]
+    #[tactic(auto, unfolding(crate::specs::Slots::slot_of, crate::specs::Slots::kept, crate::specs::History::filled))]
     pub fn open(alloc: Global, image: Arc<Image>) -> Result<Core, NoMemory>
         ensures { IfOk result (λ core. core ≡ (image.value, [])) }
     {
@@ -62,42 +65,54 @@ impl Core {
 
     /// Whether a token names a row of the image.
     fn has_row(&self, token: Token) -> bool
-        ensures { result ≡ is_row self.now.0 token }
+        ensures { result ≡ is_row (image_rows self.now.0) token }
     {
         token.rid > 0 && token.rid <= self.image.rows(token.table)
     }
 
-    /// What is said to Row of a token.
-    #[tactic(auto, using(crate::proofs::CoreLemmas::peeked_absent, crate::proofs::CoreLemmas::peeked_need, crate::proofs::CoreLemmas::peeked_ready, crate::proofs::CoreLemmas::has_slot, crate::proofs::CoreLemmas::no_slot))]
-    fn peek_row(&self, token: Token) -> Result<Peek, NoMemory>
-        ensures { IfOk result (λ peek. peek ≡ peeked self.now.0 self.now.1 (Query.Row token)) }
+    /// Whether the row of a key is there, or the key is one of the root's.
+    fn is_there(&self, key: &Key) -> bool
+        ensures { result ≡ is_key_there (image_rows self.now.0) key.now }
     {
-        if !self.has_row(token) {
-            return Ok(Peek::Ready(Reply::Absent(token)));
+        key.is_of_root() || self.has_row(key.token())
+    }
+
+    /// What is said of a key before it is looked at: that its row is absent, or that its table has no such part.
+    #[tactic(auto, using(crate::proofs::ReplyLemmas::early_absent, crate::proofs::ReplyLemmas::early_wrong, crate::proofs::ReplyLemmas::early_none))]
+    fn early_reply(&self, key: &Key) -> Option<Reply>
+        ensures { result ≡ early_of (graph_after self.now.0 self.now.1) key.now }
+    {
+        if !self.is_there(key) {
+            return Some(Reply::Absent(key.token()));
         }
-        let key = Key::Row(token);
+        if !has_kind(key) {
+            return Some(Reply::WrongKind(key.token()));
+        }
+        None
+    }
+
+    /// What is said to a query that looks at this key.
+    fn peek_key(&self, alloc: Global, key: Key) -> Result<Peek, NoMemory>
+        ensures { IfOk result (λ peek. peek ≡ peeked_key self.now.0 self.now.1 key) }
+    {
+        if let Some(reply) = self.early_reply(&key) {
+            return Ok(Peek::Ready(reply));
+        }
         match self.slots.get(&key) {
-            Some(slot) => Ok(Peek::Ready(row_reply(slot)?)),
+            Some(slot) => Ok(Peek::Ready(slot_reply(alloc, key, slot)?)),
             None => Ok(Peek::Need(key)),
         }
     }
 
-    /// What is said to Filled.
-    #[tactic(auto, using(crate::proofs::CoreLemmas::peeked_filled))]
-    fn peek_filled(&self) -> Peek
-        ensures { result ≡ peeked self.now.0 self.now.1 Query.Filled }
-    {
-        Peek::Ready(Reply::Filled(self.history.len() as u64))
-    }
-
-    /// What the core says to a query: `Need` with the first key that the query looks at and that is not filled, and `Ready` with
-    /// the reply where there is none. Nothing changes.
-    pub fn peek(&self, query: &Query) -> Result<Peek, NoMemory>
+    /// What the core says to a query: `Need` with the first key that the query looks at and that is not filled, and
+    /// `Ready` with the reply where there is none. Nothing changes.
+    #[tactic(auto, using(crate::proofs::ReplyLemmas::peeked_is, crate::proofs::ReplyLemmas::peeked_none))]
+    pub fn peek(&self, alloc: Global, query: &Query) -> Result<Peek, NoMemory>
         ensures { IfOk result (λ peek. peek ≡ peeked self.now.0 self.now.1 query.now) }
     {
-        match query {
-            Query::Row(token) => self.peek_row(*token),
-            Query::Filled => Ok(self.peek_filled()),
+        match query.key() {
+            Some(key) => self.peek_key(alloc, key),
+            None => Ok(Peek::Ready(Reply::Filled(self.history.len() as u64))),
         }
     }
 }

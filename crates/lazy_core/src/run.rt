@@ -6,33 +6,42 @@ ghost use Rattle.lazy_core.specs.Wants.{AllMayPublish, MayPublish};
 use crate::lazy::Core;
 use crate::step::{Step, StepAnswer};
 use crate::wanted::{Peek, Wanted};
+use crate::wants::Wants;
 use cil_base::{List, NoMemory};
 use node_model::{By, Query, Why};
 use node_read::read_key;
 use std::alloc::Global;
 
 /// What a caller wants that was given this answer to a query.
-fn want_of(core: &Core, by: By, query: Query, peek: &Peek) -> Option<Wanted>
-    ensures { result ≡ want_of by query core.now.1 peek.now }
+fn want_of(
+    alloc: Global,
+    core: &Core,
+    by: By,
+    query: &Query,
+    peek: &Peek,
+) -> Result<Option<Wanted>, NoMemory>
+    ensures { IfOk result (λ want. want ≡ want_of by query.now core.now.1 peek.now) }
 {
-    match peek {
-        Peek::Ready(_) => None,
-        Peek::Need(key) => Some(Wanted {
-            by,
-            point: core.history().len() as u64,
-            why: Why::Query(query),
-            key: *key,
-        }),
-    }
+    let Peek::Need(key) = peek else {
+        return Ok(None);
+    };
+    let query = query.copy(alloc)?;
+    Ok(Some(Wanted {
+        by,
+        point: core.history().len() as u64,
+        why: Why::Query(query),
+        key: *key,
+    }))
 }
 
 /// What the step of a number left wanted.
-fn wanted_by(wants: &[Option<Wanted>], of: u32) -> Option<Wanted>
-    ensures { result ≡ wanted_by wants.now of }
+fn wanted_by(alloc: Global, wants: &[Option<Wanted>], of: u32) -> Result<Option<Wanted>, NoMemory>
+    ensures { IfOk result (λ want. want ≡ wanted_by wants.now of) }
 {
     match wants.get(of as usize) {
-        Some(want) => *want,
-        None => None,
+        Some(Some(want)) => Ok(Some(want.copy(alloc)?)),
+        Some(None) => Ok(None),
+        None => Ok(None),
     }
 }
 
@@ -65,21 +74,21 @@ fn take_step(
 {
     match step {
         Step::Peek { by, query } => {
-            let peek = core.peek(query)?;
-            let want = want_of(core, *by, *query, &peek);
+            let peek = core.peek(alloc, query)?;
+            let want = want_of(alloc, core, *by, query, &peek)?;
             Ok((StepAnswer::Peek(peek), want))
         }
         Step::Publish { of } => {
-            let answer = publish(alloc, core, wanted_by(wants, *of))?;
+            let answer = publish(alloc, core, wanted_by(alloc, wants, *of)?)?;
             Ok((answer, None))
         }
     }
 }
 
-/// Takes steps by any callers on a core, one after the other, and gives the core after them and what each answered. A Peek is
-/// answered as by `Core::peek`. A Publish fills the key that the step of its number was told to need, as `Core::publish` does,
-/// for that step's caller and query and at the history's length when that step was answered; it is `Skipped` exactly where
-/// that step is no earlier one, or was not told to need a key. `NoMemory` drops the core.
+/// Takes steps by any callers on a core, one after the other, and gives the core after them and what each answered. A
+/// Peek is answered as by `Core::peek`. A Publish fills the key that the step of its number was told to need, as
+/// `Core::publish` does, for that step's caller and query and at the history's length when that step was answered; it is
+/// `Skipped` exactly where that step is no earlier one, or was not told to need a key. `NoMemory` drops the core.
 pub fn run_steps(
     alloc: Global,
     core: Core,
@@ -91,7 +100,7 @@ pub fn run_steps(
 {
     let mut core = core;
     let mut answers = List::new(alloc);
-    let mut wants = List::new(alloc);
+    let mut wants = Wants::new(alloc);
     for step in steps.as_slice() {
         let (answer, want) = take_step(alloc, &mut core, wants.as_slice(), step)?;
         answers.push(answer)?;

@@ -1,10 +1,9 @@
 ghost use Rattle.std.specs.Prelude.{◌≡◌, ◌++◌, [], ◌∷◌, IfOk, None, OnErr, OnOk, option_copied};
-ghost use Rattle.node_model.specs.Replies.{row_reply};
 ghost use Rattle.lazy_core.specs.Slots.{slot_of};
 
 use cil_base::NoMemory;
 use indexmap::IndexMap;
-use node_model::{Key, Reply, Slot, Value};
+use node_model::{Key, Slot};
 use std::alloc::Global;
 use std::marker::Model;
 
@@ -18,8 +17,12 @@ impl Model for Slots {
     ghost use Rattle.std.specs.Prelude.{List};
     ghost use Rattle.node_model.specs.declared.key.Key.{Key};
     ghost use Rattle.node_model.specs.declared.slot.Slot.{Slot};
+    ghost use Rattle.sig_tree.specs.contracts.tree.TypeSig as types;
+    ghost use Rattle.std.specs.Coded.{codes};
 
     ghost Value = { List (Key × Slot) };
+
+    ghost coded = { Prim.hlevel (codes, types.the_row.coded) };
 
     ghost view = { λ s. s.kept.entries };
 }
@@ -51,15 +54,5 @@ impl Slots {
     {
         self.kept.insert(key, slot)?;
         Ok(())
-    }
-}
-
-/// The reply to Row by what the row's key holds.
-pub(crate) fn row_reply(slot: &Slot) -> Result<Reply, NoMemory>
-    ensures { IfOk result (λ reply. reply ≡ row_reply slot.now) }
-{
-    match slot {
-        Slot::Value(Value::Row(row)) => Ok(Reply::Row(row.copy()?)),
-        Slot::Fault(fault) => Ok(Reply::Fault(*fault)),
     }
 }

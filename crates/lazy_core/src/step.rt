@@ -1,8 +1,12 @@
+ghost use Rattle.std.specs.Prelude.{◌≡◌, IfOk};
+
 use crate::wanted::{Peek, Published};
+use cil_base::NoMemory;
 use node_model::{By, Query};
+use std::alloc::Global;
 
 /// A step on a core.
-#[derive(Clone, Copy, Debug, PartialEq, Eq)]
+#[derive(Drop)]
 pub enum Step {
     /// A caller asks a query.
     Peek { by: By, query: Query },
@@ -11,7 +15,7 @@ pub enum Step {
 }
 
 /// What a step answers.
-#[derive(Debug, Drop, PartialEq, Eq)]
+#[derive(Drop)]
 pub enum StepAnswer {
     /// To `Step::Peek`.
     Peek(Peek),
@@ -19,4 +23,32 @@ pub enum StepAnswer {
     Published(Published),
     /// To `Step::Publish`, where the step of that number is no earlier one, or was not told to need a key.
     Skipped,
+}
+
+impl Step {
+    /// An equal step of its own.
+    pub fn copy(&self, alloc: Global) -> Result<Step, NoMemory>
+        ensures { IfOk result (λ copy. copy ≡ self.now) }
+    {
+        match self {
+            Step::Peek { by, query } => {
+                let query = query.copy(alloc)?;
+                Ok(Step::Peek { by: *by, query })
+            }
+            Step::Publish { of } => Ok(Step::Publish { of: *of }),
+        }
+    }
+}
+
+impl StepAnswer {
+    /// An equal answer of its own.
+    pub fn copy(&self, alloc: Global) -> Result<StepAnswer, NoMemory>
+        ensures { IfOk result (λ copy. copy ≡ self.now) }
+    {
+        match self {
+            StepAnswer::Peek(peek) => Ok(StepAnswer::Peek(peek.copy(alloc)?)),
+            StepAnswer::Published(published) => Ok(StepAnswer::Published(*published)),
+            StepAnswer::Skipped => Ok(StepAnswer::Skipped),
+        }
+    }
 }

@@ -1,7 +1,11 @@
+ghost use Rattle.std.specs.Prelude.{◌≡◌, IfOk};
+
+use cil_base::NoMemory;
 use node_model::{By, Key, Reply, Why};
+use std::alloc::Global;
 
 /// A key that was wanted and not filled: by whom, at how many entries of the history, for what, and which.
-#[derive(Clone, Copy, Debug, PartialEq, Eq)]
+#[derive(Drop)]
 pub struct Wanted {
     pub by: By,
     pub point: u64,
@@ -10,7 +14,7 @@ pub struct Wanted {
 }
 
 /// What a core says to a query.
-#[derive(Debug, Drop, PartialEq, Eq)]
+#[derive(Drop)]
 pub enum Peek {
     /// All keys that the query looks at are filled: its reply.
     Ready(Reply),
@@ -19,10 +23,37 @@ pub enum Peek {
 }
 
 /// What a core did with a slot.
-#[derive(Clone, Copy, Debug, PartialEq, Eq)]
+#[derive(Clone, Copy, PartialEq, Eq)]
 pub enum Published {
     /// The key is filled with it now.
     Stored,
     /// The key was filled already, and nothing changed.
     Already,
+}
+
+impl Wanted {
+    /// An equal want of its own.
+    pub fn copy(&self, alloc: Global) -> Result<Wanted, NoMemory>
+        ensures { IfOk result (λ copy. copy ≡ self.now) }
+    {
+        let why = self.why.copy(alloc)?;
+        Ok(Wanted {
+            by: self.by,
+            point: self.point,
+            why,
+            key: self.key,
+        })
+    }
+}
+
+impl Peek {
+    /// An equal answer of its own.
+    pub fn copy(&self, alloc: Global) -> Result<Peek, NoMemory>
+        ensures { IfOk result (λ copy. copy ≡ self.now) }
+    {
+        match self {
+            Peek::Ready(reply) => Ok(Peek::Ready(reply.copy(alloc)?)),
+            Peek::Need(key) => Ok(Peek::Need(*key)),
+        }
+    }
 }

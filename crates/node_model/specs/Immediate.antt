@@ -1,34 +1,26 @@
--- What a key holds in the file as it is: its value, or its one fault. ECMA-335 II.22, II.24.2.6.
-use Rattle.std.specs.Prelude.{ℕ, List, [], ◌∷◌, Option, Some, None}
-use Rattle.std.specs.List.{flat_map}
-use Rattle.cil_base.specs.Token.{Token}
-use Rattle.node_model.specs.Columns.{numbered}
-use Rattle.node_model.specs.Entries.{Parts, parts}
-use Rattle.node_model.specs.RowFaults.{cell_value, row_fault}
-use Rattle.node_model.specs.declared.cell.Cell.{Cell}
+-- What a key holds in the file as it is: its value, or its one fault. ECMA-335 II.22 to II.25.
+use Rattle.std.specs.Prelude.{ℕ, List}
+use Rattle.pe_image.specs.Facts.{image_facts}
+use Rattle.node_model.specs.Bodies.{read_body}
+use Rattle.node_model.specs.Data.{read_data}
+use Rattle.node_model.specs.Lists.{read_linked, read_owned}
+use Rattle.node_model.specs.Resources.{read_resource}
+use Rattle.node_model.specs.Rows.{read_row}
+use Rattle.node_model.specs.Signatures.{read_sig}
+use Rattle.node_model.specs.Streams.{image_streams}
 use Rattle.node_model.specs.declared.key.Key.{Key}
-use Rattle.node_model.specs.declared.key.Key.TheVariants.{Row}
-use Rattle.node_model.specs.declared.row.Value.TheVariants as values
-use Rattle.node_model.specs.declared.slot.FaultKind.TheVariants.{BadRow}
+use Rattle.node_model.specs.declared.key.Key.TheVariants.{Row, Sig, Owned, Linked, Body, Data, Resource, Facts}
 use Rattle.node_model.specs.declared.slot.Slot.{Slot}
 use Rattle.node_model.specs.declared.slot.Slot.TheVariants as slots
+use Rattle.node_model.specs.declared.value.Value.TheVariants as values
 
-abbrev pub listed : Option Cell → List Cell
-listed None = []
-listed (Some cell) = cell ∷ []
-
--- the cells of a row, in the order of the columns; a column that starts a run says nothing
-abbrev pub row_cells : Parts → Token → List Cell
-row_cells p t = flat_map (λ c. listed (cell_value p t.table t.rid c)) (numbered t.table)
-
-abbrev pub row_slot : Parts → Token → Option ℕ → Slot
-row_slot p t None = slots.Value (values.Row (record { token = t; cells = row_cells p t }))
-row_slot p t (Some column) = slots.Fault (record { key = Row t; kind = BadRow; column = column })
-
--- a row of these streams
-unfoldable pub read_row : Parts → Token → Slot
-read_row p t = row_slot p t (row_fault p t.table t.rid)
-
--- what a key holds, by the bytes of the image alone
+-- by the bytes of the image alone
 abbrev pub read : List ℕ → Key → Slot
-read b (Row t) = read_row (parts b) t
+read b (Row t) = read_row (image_streams b) t
+read b (Sig t) = read_sig (image_streams b) t
+read b (Owned t n) = read_owned (image_streams b) t n
+read b (Linked t l) = read_linked (image_streams b) t l
+read b (Body t) = read_body (image_streams b) b t
+read b (Data t) = read_data (image_streams b) b t
+read b (Resource t) = read_resource (image_streams b) b t
+read b Facts = slots.Value (values.Facts (image_facts b))

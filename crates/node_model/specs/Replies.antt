@@ -1,51 +1,35 @@
--- The reply to a query, by the bytes of the image and the history.
-use Rattle.std.specs.Prelude.{ℕ, suc, List, [], ◌∷◌, Option, Some, None}
-use Rattle.cil_base.specs.Token.{Token}
-use Rattle.node_model.specs.Edits.{edits}
-use Rattle.node_model.specs.Held.{held}
-use Rattle.node_model.specs.Reach.{absent, reach, fault_of}
-use Rattle.node_model.specs.declared.edit.Edit.{Edit}
-use Rattle.node_model.specs.declared.entry.Entry.{Entry}
-use Rattle.node_model.specs.declared.entry.Entry.TheVariants.{Fill}
+-- The keys that a query reaches, and its reply, in the edited graph.
+use Rattle.std.specs.Prelude.{ℕ, List, [], Option, Some, None, Result, Ok, Err}
+use Rattle.node_model.specs.Graph.{Graph}
+use Rattle.node_model.specs.Questions.{early_reply, query_walk}
+use Rattle.node_model.specs.Walk.{Halt, Lacks, Faulty, looked, said}
 use Rattle.node_model.specs.declared.key.Key.{Key}
-use Rattle.node_model.specs.declared.key.Key.TheVariants as keys
 use Rattle.node_model.specs.declared.query.Query.{Query}
-use Rattle.node_model.specs.declared.query.Query.TheVariants as queries
 use Rattle.node_model.specs.declared.reply.Reply.{Reply}
 use Rattle.node_model.specs.declared.reply.Reply.TheVariants as replies
-use Rattle.node_model.specs.declared.row.Value.TheVariants as values
-use Rattle.node_model.specs.declared.slot.Fault.{Fault}
 use Rattle.node_model.specs.declared.slot.Slot.{Slot}
-use Rattle.node_model.specs.declared.slot.Slot.TheVariants as slots
 
--- how many entries are fills
-unfoldable pub fills : List Entry → ℕ
-fills [] = 0
-fills (Fill by point why key ∷ h) = suc (fills h)
+abbrev pub all_slots : Graph → Key → Option Slot
+all_slots g k = Some (g.held k)
 
-abbrev pub or_fault : Option Fault → Option Fault → Option Fault
-or_fault (Some f) other = Some f
-or_fault None other = other
+abbrev pub unless_early : Option Reply → List Key → List Key
+unless_early (Some reply) keys = []
+unless_early None keys = keys
 
--- the first fault that the keys hold
-abbrev pub first_fault : List ℕ → List Edit → List Key → Option Fault
-first_fault b j [] = None
-first_fault b j (k ∷ ks) = or_fault (fault_of (held b j k)) (first_fault b j ks)
+-- the keys that a query looks at, up to the first that holds a fault, that one included; none where it is answered before
+unfoldable pub reach : Graph → Query → List Key
+reach g q = unless_early (early_reply g.nodes q) (looked (all_slots g) (query_walk 0 q))
 
-abbrev pub row_reply : Slot → Reply
-row_reply (slots.Value (values.Row row)) = replies.Row row
-row_reply (slots.Fault f) = replies.Fault f
+-- a reply, or the fault of a key; a graph lacks no slot
+abbrev pub reply_said : Result Reply Halt → Reply
+reply_said (Ok reply) = reply
+reply_said (Err (Faulty fault)) = replies.Fault fault
+reply_said (Err (Lacks k)) = replies.Filled 0
 
--- the reply by the values that the keys hold
-abbrev pub value_reply : List ℕ → List Entry → Query → Reply
-value_reply b h (queries.Row t) = row_reply (held b (edits h) (keys.Row t))
-value_reply b h queries.Filled = replies.Filled (fills h)
+abbrev pub reply_by : Option Reply → Reply → Reply
+reply_by (Some early) reply = early
+reply_by None reply = reply
 
-abbrev pub replied : Option Token → Option Fault → Reply → Reply
-replied (Some t) fault other = replies.Absent t
-replied None (Some f) other = replies.Fault f
-replied None None other = other
-
--- a token is absent, or a key that the query looks at holds a fault, or there is the reply by the values
-unfoldable pub reply : List ℕ → List Entry → Query → Reply
-reply b h q = replied (absent b (edits h) q) (first_fault b (edits h) (reach b (edits h) q)) (value_reply b h q)
+-- the reply to a query, where so many keys were filled
+unfoldable pub reply : Graph → ℕ → Query → Reply
+reply g fills q = reply_by (early_reply g.nodes q) (reply_said (said (all_slots g) (query_walk fills q)))

@@ -1,26 +1,23 @@
-//! The graph of an image, as values: the rows that a key holds, the queries and their replies, and the history of what was
-//! filled. The definitions speak of the bytes of the image and of the history alone (ECMA-335 II.22, II.24.2.6).
+//! The graph of an image, as values: what its keys hold, the queries and their replies, and the entries of a history. The definitions
+//! speak of the bytes of the image alone (ECMA-335 II.22 to II.25).
 #![tactic(auto)]
 
 mod cell;
 mod edit;
 mod entry;
 mod key;
-mod laws;
+mod key_kind;
 mod query;
 mod reply;
-mod row;
 mod slot;
+mod value;
 
 pub use cell::Cell;
 pub use edit::Edit;
 pub use entry::{By, Entry, Why};
 pub use key::Key;
-pub use laws::{faults_are_of_the_file, fills_change_nothing_seen, unfilled_is_untouched};
+pub use key_kind::{has_kind, has_sig, is_root_table, may_link, owns_table, sig_column};
 pub use query::Query;
 pub use reply::Reply;
-pub use row::{RowValue, Value};
 pub use slot::{Fault, FaultKind, Slot};
-
-#[cfg(test)]
-mod tests;
+pub use value::{BodyValue, ResourceValue, RowValue, Value};

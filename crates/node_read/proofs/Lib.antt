@@ -1,4 +1,6 @@
-mod Bits
-pub mod ThinRows
-pub mod CellLemmas
-pub mod SlotLemmas
+pub mod RowLemmas
+pub mod ColumnLemmas
+pub mod KeyLemmas
+pub mod ImageLemmas
+pub mod ListLemmas
+pub mod IndexedLemmas

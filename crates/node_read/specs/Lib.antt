@@ -1,4 +1,2 @@
-pub mod Rows
 pub mod Image
-pub mod Streams
-pub mod Shown
+pub mod inner

@@ -1,41 +1,34 @@
-ghost use Rattle.std.specs.Prelude.{◌≡◌, ◌<◌, ◌≤◌, IfOk, true};
-ghost use Rattle.pe_image.specs.Rows.{row_count};
-ghost use Rattle.node_model.specs.Immediate.{read, read_row};
+ghost use Rattle.std.specs.Prelude.{◌≡◌, IfOk, true};
+ghost use Rattle.node_model.specs.Immediate.{read};
 ghost use Rattle.node_model.specs.Keys.{is_key};
-ghost use Rattle.node_read.specs.Streams.{IsOpened, parts_of};
 
-use crate::cells::{MODULE, TYPE_DEF};
+use crate::body::read_body;
+use crate::field_data::read_data;
 use crate::image::Image;
-use crate::module_row::module_slot;
-use crate::streams::Streams;
-use crate::type_row::type_slot;
-use cil_base::{NoMemory, Token};
-use node_model::{Key, Slot};
+use crate::linked::linked_slot;
+use crate::lists::owned_slot;
+use crate::resource::read_resource;
+use crate::row::row_slot;
+use crate::signature::sig_slot;
+use cil_base::NoMemory;
+use node_model::{Key, Slot, Value};
 use std::alloc::Global;
 
-/// What a row of a thin image holds.
-fn read_row(alloc: Global, streams: &Streams, token: Token) -> Result<Slot, NoMemory>
-    requires opened { IsOpened streams.now }
-    requires first { 0 < token.rid }
-    requires last { token.rid ≤ row_count streams.now.tables.now token.table }
-    ensures { IfOk result (λ slot. slot ≡ read_row (parts_of streams.now) token) }
-{
-    match token.table {
-        MODULE => module_slot(alloc, streams, token.rid),
-        TYPE_DEF => type_slot(alloc, streams, token.rid),
-        _ => unreachable!(),
-    }
-}
-
-/// What a key of the image holds in the file: its value, or its one fault. Of a row these are its cells, or BadRow with the
-/// number of the first cell, from 0, whose entry of a heap does not exist, whose row number passes the rows of its table, or
-/// whose tag names no table. Asks for a key of the image (ECMA-335 II.22, II.24.2.6).
-#[tactic(auto, unfolding(node_model::specs::Entries::parts, node_model::specs::Keys::rows))]
+/// What a key of the image holds in the file: its value, or its one fault. Asks for a key of the image: of a row that it
+/// has, and of a kind that the row's table has (ECMA-335 II.22 to II.25).
 pub fn read_key(alloc: Global, image: &Image, key: &Key) -> Result<Slot, NoMemory>
     requires { is_key image.now key.now ≡ true }
     ensures { IfOk result (λ slot. slot ≡ read image.now key.now) }
 {
+    let streams = image.streams();
     match key {
-        Key::Row(token) => read_row(alloc, &image.streams(), *token),
+        Key::Row(token) => row_slot(alloc, &streams, *token),
+        Key::Sig(token) => sig_slot(alloc, &streams, *token),
+        Key::Owned(token, table) => owned_slot(alloc, &streams, *token, *table),
+        Key::Linked(token, link) => linked_slot(alloc, &streams, *token, *link),
+        Key::Body(token) => read_body(alloc, image, *token),
+        Key::Data(token) => read_data(alloc, image, *token),
+        Key::Resource(token) => read_resource(alloc, image, *token),
+        Key::Facts => Ok(Slot::Value(Value::Facts(image.facts().copy()?))),
     }
 }

@@ -1,10 +1,8 @@
 -- Values worked out by hand from the standard, so that a wrong number or place in a definition does not check.
-use Rattle.std.specs.Prelude.{◌≡◌, ℕ, true, List, [], ◌∷◌, ◌++◌, length, Some, Err, codes, refl}
-use Rattle.pe_image.specs.Places.{first_refusal, u32_at, u64_at}
+use Rattle.std.specs.Prelude.{◌≡◌, ℕ, List, [], ◌∷◌, ◌++◌, Some, codes, refl}
+use Rattle.pe_image.specs.Places.{u32_at}
 use Rattle.pe_image.specs.Sections.{section_header_at, raw_place_of}
 use Rattle.pe_image.specs.Streams.{name_length, header_width, stream_at}
-use Rattle.pe_image.specs.Rows.{table_numbers, tables_before, row_count, rows_place, rows_size, unsupported, has_rows, UnsupportedTable, BadHeapSizes, BadTables, rows_conditions}
-use Rattle.pe_image.specs.Thin.{thin_width, has_thin_rows}
 use Rattle.pe_image.specs.declared.stream.StreamName.TheVariants.{Tables}
 
 pub u32-little : u32_at (0xff ∷ 0x42 ∷ 0x53 ∷ 0x4a ∷ 0x42 ∷ []) 1 ≡ 0x424a5342
@@ -33,30 +31,3 @@ stream-of_tables = refl
 pub width-of_tables : header_width stream_header 0 ≡ 12
 unfolding header_width name_length
 width-of_tables = refl
-
-pub tables-are_38 : length table_numbers ≡ 38
-tables-are_38 = refl
-
--- the stream `#~` with a Module row and a TypeDef row, by HeapSizes, byte 6 of Valid and the number of TypeDef rows
-abbrev tables : ℕ → ℕ → ℕ → List ℕ
-tables heaps valid types =
-    0 ∷ 0 ∷ 0 ∷ 0 ∷ 2 ∷ 0 ∷ heaps ∷ 1 ∷ 5 ∷ 0 ∷ 0 ∷ 0 ∷ 0 ∷ 0 ∷ valid ∷ 0 ∷ 0 ∷ 0xfa ∷ 1 ∷ 0x33 ∷ 0 ∷ 0x16 ∷ 0 ∷ 0
-    ∷ 1 ∷ 0 ∷ 0 ∷ 0 ∷ types ∷ 0 ∷ 0 ∷ 0
-    ∷ 0 ∷ 0 ∷ 1 ∷ 0 ∷ 1 ∷ 0 ∷ 0 ∷ 0 ∷ 0 ∷ 0
-    ∷ 0 ∷ 0 ∷ 0 ∷ 0 ∷ 0x0b ∷ 0 ∷ 0 ∷ 0 ∷ 0 ∷ 0 ∷ 1 ∷ 0 ∷ 1 ∷ 0 ∷ []
-
-pub small-is_thin : has_thin_rows (tables 0 0 1) ≡ true
-unfolding has_thin_rows rows_conditions has_rows rows_size rows_place unsupported row_count tables_before thin_width u32_at u64_at
-small-is_thin = refl
-
-pub table_48-is_none : first_refusal (rows_conditions (thin_width (tables 8 1 1)) (tables 8 1 1)) true ≡ Err (UnsupportedTable 48)
-unfolding rows_conditions unsupported u64_at
-table_48-is_none = refl
-
-pub heaps_8-are_none : first_refusal (rows_conditions (thin_width (tables 8 0 1)) (tables 8 0 1)) true ≡ Err (BadHeapSizes 8)
-unfolding rows_conditions unsupported u64_at
-heaps_8-are_none = refl
-
-pub rows-pass : first_refusal (rows_conditions (thin_width (tables 0 0 2)) (tables 0 0 2)) true ≡ Err BadTables
-unfolding rows_conditions has_rows rows_size rows_place unsupported row_count tables_before thin_width u32_at u64_at
-rows-pass = refl

@@ -7,5 +7,3 @@ pub mod Streams
 pub mod Facts
 pub mod Layout
 pub mod inner
-pub mod Rows
-pub mod Thin

@@ -1,4 +1,4 @@
-use Rattle.cecil_top.specs.Asked.{IsAsked, wants}
+use Rattle.cecil_top.specs.Asking.{IsAsked, wants}
 use Rattle.cecil_top.proofs.ask.ask.Given as goal
 
 abbrev pub invariant-asking : goal.invariant-asking
