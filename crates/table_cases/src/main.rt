@@ -4,15 +4,15 @@
 
 mod base_cases;
 mod heap_cases;
+mod many_rows;
 mod schema_cases;
 mod stream_cases;
 mod words;
 
 use std::alloc::{AllocError, Global};
 use std::io;
-use words::{bytes, word};
 
-/// The answer to a case, over the stream that the last `stream` case gave.
+/// The answer to a case, over the stream that the last `stream` or `rows` case gave.
 fn answer(alloc: Global, line: &str, stream: &[u8]) -> Result<String, AllocError> {
     if let Some(answer) = base_cases::answer(alloc, line)? {
         return Ok(answer);
@@ -33,8 +33,8 @@ fn main(rt: HostRuntime) -> io::Result<()> {
     for line in rt.lines(alloc) {
         let line = line?;
         number = number.wrapping_add(1);
-        if word(line.as_str(), 0) == "stream" {
-            stream = bytes(alloc, line.as_str(), 1)?;
+        if let Some(given) = many_rows::stream(alloc, line.as_str())? {
+            stream = given;
         }
         let answer = answer(alloc, line.as_str(), stream.as_slice())?;
         println!(rt; "{number} {answer}")?;

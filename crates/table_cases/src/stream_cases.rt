@@ -1,3 +1,4 @@
+use crate::many_rows::sweep;
 use crate::words::{number, word};
 use cil_base::Token;
 use md_schema::{column_at, link_column, links, start_column};
@@ -11,10 +12,11 @@ pub(crate) fn answer(alloc: Global, line: &str, stream: &[u8]) -> Result<String,
         Err(refusal) => return format!(in alloc; "{refusal:?}"),
     };
     match word(line, 0) {
-        "stream" => counted(alloc, &tables),
+        "stream" | "rows" => counted(alloc, &tables),
         "cells" => cells(alloc, stream, number(line, 1)),
         "range" => range(alloc, stream, number(line, 1), number(line, 2)),
         "linked" => linked(alloc, stream, number(line, 1), number(line, 2)),
+        "sweep" => sweep(alloc, stream, line),
         "indexed" => indexed(alloc, stream, number(line, 1), number(line, 2)),
         _ => String::from_str(alloc, "no case"),
     }
