@@ -1,0 +1,4 @@
+pub mod LocationLemmas
+pub mod NumberLemmas
+pub mod SlotLemmas
+pub mod ValueLemmas
