@@ -19,7 +19,7 @@ use Rattle.lazy_core.specs.History.{fills, filled, graph_after}
 use Rattle.lazy_core.specs.Steps.{peek_at, peeked}
 use Rattle.lazy_core.specs.declared.wanted.Peek.{Peek}
 use Rattle.lazy_core.specs.declared.wanted.Peek.TheVariants.{Ready, Need}
-use Rattle.lazy_core.specs.inner.Replies.{early_of, peeked_by, peeked_key, peeked_slot, slot_reply_of}
+use Rattle.lazy_core.specs.inner.Replies.{early_of, key_said, peeked_by, peeked_key, peeked_slot, slot_reply_of}
 use Rattle.lazy_core.proofs.HistoryLemmas.{all_fills, graph_is}
 
 -- the answer by the first key that is not filled
@@ -55,6 +55,10 @@ reply_is : (g : Graph) (fills : ℕ) (q : Query) (k : Key) → query_key q ≡ S
 unfolding reply early_reply query_walk early_of slot_reply_of
 reply_is g fills q k e = rw e refl
 
+pub said_is : (b : List ℕ) (h : List Entry) (q : Query) (k : Key) → query_key q ≡ Some k → reply (graph_after b h) (fills h) q ≡ key_said b h k
+unfolding key_said
+said_is b h q k e = reply_is (graph_after b h) (fills h) q k e
+
 pub peeked_is : (b : List ℕ) (h : List Entry) (q : Query) (k : Key) → query_key q ≡ Some k → peeked b h q ≡ peeked_key b h k
 unfolding peeked peeked_key
 peeked_is b h q k e =
@@ -72,12 +76,15 @@ reply_none : (g : Graph) (fills : ℕ) (q : Query) → query_key q ≡ None → 
 unfolding reply early_reply query_walk
 reply_none g fills q e = rw e refl
 
+pub said_none : (b : List ℕ) (h : List Entry) (q : Query) → query_key q ≡ None → reply (graph_after b h) (fills h) q ≡ replies.Filled (length h)
+said_none b h q e = reply_none (graph_after b h) (fills h) q e ∙ ap replies.Filled (all_fills h)
+
 pub peeked_none : (b : List ℕ) (h : List Entry) (q : Query) → query_key q ≡ None → peeked b h q ≡ Ready (replies.Filled (length h))
 unfolding peeked chosen
 peeked_none b h q e =
     at-chosen b h q (find (λ j. not (filled b h j)) (reach (graph_after b h) q))
     ∙ ap (λ ks. chosen (find (λ j. not (filled b h j)) ks) (Ready (reply (graph_after b h) (fills h) q))) (reach_none (graph_after b h) q e)
-    ∙ ap Ready (reply_none (graph_after b h) (fills h) q e ∙ ap replies.Filled (all_fills h))
+    ∙ ap Ready (said_none b h q e)
 
 -- before the key is looked at
 by_there : (x y : Bool) → (if x then Live else (if y then Live else Absent)) ≡ (if (x || y) then Live else Absent)
@@ -124,3 +131,11 @@ peeked_need b h k e f = ap (peeked_by (graph_after b h) (filled b h k) k) e ∙ 
 pub peeked_ready : (b : List ℕ) (h : List Entry) (k : Key) → early_of (graph_after b h) k ≡ None → filled b h k ≡ true → peeked_key b h k ≡ Ready (slot_reply_of k ((graph_after b h).held k))
 unfolding peeked_key
 peeked_ready b h k e f = ap (peeked_by (graph_after b h) (filled b h k) k) e ∙ ap (λ x. peeked_slot (graph_after b h) x k) f
+
+pub said_early : (b : List ℕ) (h : List Entry) (k : Key) (r : Reply) → early_of (graph_after b h) k ≡ Some r → key_said b h k ≡ r
+unfolding key_said
+said_early b h k r e = ap (λ o. reply_by o (slot_reply_of k ((graph_after b h).held k))) e
+
+pub said_looked : (b : List ℕ) (h : List Entry) (k : Key) → early_of (graph_after b h) k ≡ None → key_said b h k ≡ slot_reply_of k ((graph_after b h).held k)
+unfolding key_said
+said_looked b h k e = ap (λ o. reply_by o (slot_reply_of k ((graph_after b h).held k))) e

@@ -1,16 +1,17 @@
 ghost use Rattle.std.specs.Prelude.{◌≡◌, [], IfOk};
 ghost use Rattle.node_model.specs.Keys.{image_rows, is_key_there, is_row};
-ghost use Rattle.lazy_core.specs.History.{graph_after};
+ghost use Rattle.node_model.specs.Replies.{reply};
+ghost use Rattle.lazy_core.specs.History.{fills, graph_after};
 ghost use Rattle.lazy_core.specs.Slots.{slot_of};
 ghost use Rattle.lazy_core.specs.Steps.{peeked};
-ghost use Rattle.lazy_core.specs.inner.Replies.{early_of, peeked_key};
+ghost use Rattle.lazy_core.specs.inner.Replies.{early_of, key_said, peeked_key};
 
-use crate::slot_reply::slot_reply;
+use crate::slot_reply::{moved_reply, slot_reply};
 use crate::slots::Slots;
 use crate::wanted::Peek;
 use cil_base::{List, NoMemory, Token};
 use node_model::{Entry, Key, Query, Reply, has_kind};
-use node_read::Image;
+use node_read::{Image, read_key};
 use std::alloc::Global;
 use std::marker::Model;
 use std::sync::Arc;
@@ -113,6 +114,32 @@ impl Core {
         match query.key() {
             Some(key) => self.peek_key(alloc, key),
             None => Ok(Peek::Ready(Reply::Filled(self.history.len() as u64))),
+        }
+    }
+
+    /// The reply to a query that looks at this key.
+    fn key_reply(&self, alloc: Global, key: Key) -> Result<Reply, NoMemory>
+        ensures { IfOk result (λ said. said ≡ key_said self.now.0 self.now.1 key) }
+    {
+        if let Some(early) = self.early_reply(&key) {
+            return Ok(early);
+        }
+        match self.slots.get(&key) {
+            Some(slot) => slot_reply(alloc, key, slot),
+            None => {
+                let slot = read_key(alloc, &self.image, &key)?;
+                Ok(moved_reply(key, slot))
+            }
+        }
+    }
+
+    /// The reply to a query at the core's history. What is not filled is read from the image, and nothing is filled.
+    pub fn reply(&self, alloc: Global, query: &Query) -> Result<Reply, NoMemory>
+        ensures { IfOk result (λ said. said ≡ reply (graph_after self.now.0 self.now.1) (fills self.now.1) query.now) }
+    {
+        match query.key() {
+            Some(key) => self.key_reply(alloc, key),
+            None => Ok(Reply::Filled(self.history.len() as u64)),
         }
     }
 }

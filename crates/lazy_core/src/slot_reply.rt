@@ -34,3 +34,32 @@ pub(crate) fn slot_reply(alloc: Global, key: Key, slot: &Slot) -> Result<Reply, 
         Slot::Fault(fault) => Ok(Reply::Fault(*fault)),
     }
 }
+
+/// The reply by a value that no key keeps.
+#[tactic(auto, using(crate::proofs::ValueLemmas::row_said, crate::proofs::ValueLemmas::sig_said, crate::proofs::ValueLemmas::tokens_said, crate::proofs::ValueLemmas::body_said, crate::proofs::ValueLemmas::data_said, crate::proofs::ValueLemmas::resource_said, crate::proofs::ValueLemmas::facts_said))]
+fn moved_value(key: Key, value: Value) -> Reply
+    requires { fits_key key (slots.Value value) ≡ true }
+    ensures { result ≡ slot_reply_of key (slots.Value value) }
+{
+    match value {
+        Value::Row(row) => Reply::Row(row),
+        Value::Sig(sig) => Reply::Sig(key.token(), sig),
+        Value::Tokens(list) => Reply::Tokens(key, list),
+        Value::Body(body) => Reply::Body(key.token(), body),
+        Value::Data(bytes) => Reply::Data(key.token(), bytes),
+        Value::Resource(value) => Reply::Resource(key.token(), value),
+        Value::Facts(facts) => Reply::Facts(facts),
+    }
+}
+
+/// The reply to a query that looks at one key, by a slot that no key keeps: what it holds is moved into the reply.
+#[tactic(auto, using(crate::proofs::ValueLemmas::fault_said))]
+pub(crate) fn moved_reply(key: Key, slot: Slot) -> Reply
+    requires { fits_key key slot ≡ true }
+    ensures { result ≡ slot_reply_of key slot }
+{
+    match slot {
+        Slot::Value(value) => moved_value(key, value),
+        Slot::Fault(fault) => Reply::Fault(fault),
+    }
+}

@@ -3,7 +3,7 @@ use Rattle.std.specs.Prelude.{ℕ, Bool, true, false, List, Option, Some, None, 
 use Rattle.node_model.specs.Graph.{Graph}
 use Rattle.node_model.specs.Look.{key_status}
 use Rattle.node_model.specs.Questions.{status_reply, value_reply}
-use Rattle.node_model.specs.Replies.{reply_said}
+use Rattle.node_model.specs.Replies.{reply_by, reply_said}
 use Rattle.node_model.specs.Walk.{part, then_said}
 use Rattle.node_model.specs.declared.entry.Entry.{Entry}
 use Rattle.node_model.specs.declared.key.Key.{Key}
@@ -48,3 +48,7 @@ peeked_by g full k None = peeked_slot g full k
 -- what is said to a query that looks at this key
 unfoldable pub peeked_key : List ℕ → List Entry → Key → Peek
 peeked_key b h k = peeked_by (graph_after b h) (filled b h k) k (early_of (graph_after b h) k)
+
+-- the reply to a query that looks at this key
+unfoldable pub key_said : List ℕ → List Entry → Key → Reply
+key_said b h k = reply_by (early_of (graph_after b h) k) (slot_reply_of k ((graph_after b h).held k))
