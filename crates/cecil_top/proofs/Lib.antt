@@ -1,4 +1,3 @@
-mod AskLemmas
 mod InspectLemmas
 mod LimitLemmas
 mod StandardFacts

@@ -1,7 +1,5 @@
 ghost use Rattle.std.specs.Prelude.{◌≡◌, ◌++◌, [], OnOk};
 ghost use Rattle.std.specs.List.{flat_map};
-ghost use Rattle.lazy_core.specs.History.{edits};
-ghost use Rattle.cecil_top.specs.Asking.{IsAsked};
 ghost use Rattle.cecil_top.specs.Lines.{dump, listed, row_line};
 
 use crate::line::{add_line, reply_of};
@@ -12,14 +10,9 @@ use node_model::{Query, Reply};
 use std::alloc::Global;
 
 /// Adds the lines of rows.
-fn add_rows(
-    alloc: Global,
-    text: &mut Bytes,
-    core: &mut Core,
-    tokens: &[Token],
-) -> Result<(), NoMemory>
-    requires { edits core.old.1 ≡ [] }
-    ensures { OnOk result (text.new ≡ text.old ++ flat_map (row_line core.old.0) tokens.now) }
+fn add_rows(alloc: Global, text: &mut Bytes, core: &Core, tokens: &[Token]) -> Result<(), NoMemory>
+    requires { core.now.1 ≡ [] }
+    ensures { OnOk result (text.new ≡ text.old ++ flat_map (row_line core.now.0) tokens.now) }
 {
     for token in tokens {
         add_line(alloc, text, core, &Query::Row(*token))?;
@@ -40,9 +33,9 @@ fn listed(said: &Reply) -> &[Token]
 /// Adds the lines of an image: that of the first Module row, and those of all TypeDef rows (ECMA-335 II.22.30,
 /// II.22.37).
 #[tactic(auto, unfolding(crate::specs::Lines::dump))]
-pub(crate) fn add_dump(alloc: Global, text: &mut Bytes, core: &mut Core) -> Result<(), NoMemory>
-    requires { edits core.old.1 ≡ [] }
-    ensures { OnOk result (text.new ≡ text.old ++ dump core.old.0) }
+pub(crate) fn add_dump(alloc: Global, text: &mut Bytes, core: &Core) -> Result<(), NoMemory>
+    requires { core.now.1 ≡ [] }
+    ensures { OnOk result (text.new ≡ text.old ++ dump core.now.0) }
 {
     let first = Token {
         table: table::MODULE,

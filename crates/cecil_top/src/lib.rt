@@ -3,7 +3,6 @@
 //! one line each.
 #![tactic(auto)]
 
-mod ask;
 mod dump;
 mod line;
 mod make;

@@ -15,11 +15,11 @@ use std::sync::Arc;
 fn image_lines(alloc: Global, image: Image, request: Request) -> Result<Bytes, NoMemory>
     ensures { IfOk result (λ text. text ≡ lines_of image request) }
 {
-    let mut core = Core::open(alloc, Arc::new(alloc, image)?)?;
+    let core = Core::open(alloc, Arc::new(alloc, image)?)?;
     let mut text = List::new(alloc);
     match request {
-        Request::Dump => add_dump(alloc, &mut text, &mut core)?,
-        Request::Show(token) => add_show(alloc, &mut text, &mut core, token)?,
+        Request::Dump => add_dump(alloc, &mut text, &core)?,
+        Request::Show(token) => add_show(alloc, &mut text, &core, token)?,
     }
     Ok(text)
 }

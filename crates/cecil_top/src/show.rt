@@ -1,8 +1,5 @@
-ghost use Rattle.std.specs.Prelude.{◌≡◌, ◌++◌, [], IfOk, IsSome, OnOk};
+ghost use Rattle.std.specs.Prelude.{◌≡◌, ◌++◌, [], IfOk, OnOk};
 ghost use Rattle.std.specs.List.{flat_map};
-ghost use Rattle.lazy_core.specs.History.{edits};
-ghost use Rattle.node_model.specs.Questions.{query_key};
-ghost use Rattle.cecil_top.specs.Asking.{IsAsked};
 ghost use Rattle.cecil_top.specs.Lines.{file_reply, is_absent, linked_line, member_line, part_line, parts_lines};
 ghost use Rattle.cecil_top.specs.Lines.{row_line, show};
 
@@ -14,11 +11,9 @@ use node_model::{Query, Reply, has_kind};
 use std::alloc::Global;
 
 /// Adds the line of a part, where the table of the row has it.
-fn add_part(alloc: Global, text: &mut Bytes, core: &mut Core, query: &Query) -> Result<(), NoMemory>
-    requires unedited { edits core.old.1 ≡ [] }
-    requires key { IsSome (query_key query.now) }
-    ensures line { OnOk result (text.new ≡ text.old ++ part_line core.old.0 query.now) }
-    ensures asked { IsAsked core.old core.new }
+fn add_part(alloc: Global, text: &mut Bytes, core: &Core, query: &Query) -> Result<(), NoMemory>
+    requires { core.now.1 ≡ [] }
+    ensures { OnOk result (text.new ≡ text.old ++ part_line core.now.0 query.now) }
 {
     match query.key() {
         Some(key) if has_kind(&key) => add_line(alloc, text, core, query),
@@ -30,13 +25,12 @@ fn add_part(alloc: Global, text: &mut Bytes, core: &mut Core, query: &Query) -> 
 fn add_members(
     alloc: Global,
     text: &mut Bytes,
-    core: &mut Core,
+    core: &Core,
     token: Token,
     tables: &[u8],
 ) -> Result<(), NoMemory>
-    requires { edits core.old.1 ≡ [] }
-    ensures lines { OnOk result (text.new ≡ text.old ++ flat_map (member_line core.old.0 token) tables.now) }
-    ensures asked { IsAsked core.old core.new }
+    requires { core.now.1 ≡ [] }
+    ensures { OnOk result (text.new ≡ text.old ++ flat_map (member_line core.now.0 token) tables.now) }
 {
     for table in tables {
         add_part(alloc, text, core, &Query::Members(token, *table))?;
@@ -48,13 +42,12 @@ fn add_members(
 fn add_links(
     alloc: Global,
     text: &mut Bytes,
-    core: &mut Core,
+    core: &Core,
     token: Token,
     links: &[Link],
 ) -> Result<(), NoMemory>
-    requires { edits core.old.1 ≡ [] }
-    ensures lines { OnOk result (text.new ≡ text.old ++ flat_map (linked_line core.old.0 token) links.now) }
-    ensures asked { IsAsked core.old core.new }
+    requires { core.now.1 ≡ [] }
+    ensures { OnOk result (text.new ≡ text.old ++ flat_map (linked_line core.now.0 token) links.now) }
 {
     for link in links {
         add_part(alloc, text, core, &Query::Links(token, *link))?;
@@ -63,9 +56,9 @@ fn add_links(
 }
 
 /// Adds the lines of the further parts of a row.
-fn add_parts(alloc: Global, text: &mut Bytes, core: &mut Core, token: Token) -> Result<(), NoMemory>
-    requires { edits core.old.1 ≡ [] }
-    ensures { OnOk result (text.new ≡ text.old ++ parts_lines core.old.0 token) }
+fn add_parts(alloc: Global, text: &mut Bytes, core: &Core, token: Token) -> Result<(), NoMemory>
+    requires { core.now.1 ≡ [] }
+    ensures { OnOk result (text.new ≡ text.old ++ parts_lines core.now.0 token) }
 {
     add_part(alloc, text, core, &Query::Sig(token))?;
     add_members(alloc, text, core, token, table::numbers())?;
@@ -84,16 +77,10 @@ fn is_absent(said: &Reply) -> bool
 
 /// Adds the line of a row, and tells whether there is no such row.
 #[tactic(auto, unfolding(crate::specs::Lines::reply_line))]
-fn add_head(
-    alloc: Global,
-    text: &mut Bytes,
-    core: &mut Core,
-    token: Token,
-) -> Result<bool, NoMemory>
-    requires { edits core.old.1 ≡ [] }
-    ensures line { OnOk result (text.new ≡ text.old ++ row_line core.old.0 token) }
-    ensures absent { IfOk result (λ absent. absent ≡ is_absent (file_reply core.old.0 (Query.Row token))) }
-    ensures asked { IsAsked core.old core.new }
+fn add_head(alloc: Global, text: &mut Bytes, core: &Core, token: Token) -> Result<bool, NoMemory>
+    requires { core.now.1 ≡ [] }
+    ensures line { OnOk result (text.new ≡ text.old ++ row_line core.now.0 token) }
+    ensures absent { IfOk result (λ absent. absent ≡ is_absent (file_reply core.now.0 (Query.Row token))) }
 {
     let said = reply_of(alloc, core, &Query::Row(token))?;
     add_said(text, &said)?;
@@ -106,11 +93,11 @@ fn add_head(
 pub(crate) fn add_show(
     alloc: Global,
     text: &mut Bytes,
-    core: &mut Core,
+    core: &Core,
     token: Token,
 ) -> Result<(), NoMemory>
-    requires { edits core.old.1 ≡ [] }
-    ensures { OnOk result (text.new ≡ text.old ++ show core.old.0 token) }
+    requires { core.now.1 ≡ [] }
+    ensures { OnOk result (text.new ≡ text.old ++ show core.now.0 token) }
 {
     if add_head(alloc, text, core, token)? {
         return Ok(());

@@ -1,12 +1,8 @@
 use Rattle.std.proofs.Common.{◌≡◌, ◌++◌, take}
 use Rattle.std.specs.List.{flat_map}
-use Rattle.cecil_top.specs.Asking.{IsAsked}
 use Rattle.cecil_top.specs.Lines.{linked_line}
 use Rattle.cecil_top.proofs.show.add_links.Given as goal
 
 -- the lines so far
 abbrev pub invariant-loop-link : goal.invariant-loop-link
-invariant-loop-link l = record {
-  asked : IsAsked l.initial.core l.core;
-  lines : l.text ≡ l.initial.text ++ flat_map (linked_line l.initial.core.0 l.token) (take l.link-index l.links);
-}
+invariant-loop-link l = l.text ≡ l.initial.text ++ flat_map (linked_line l.core.0 l.token) (take l.link-index l.links)

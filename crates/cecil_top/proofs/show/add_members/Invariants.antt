@@ -1,12 +1,8 @@
 use Rattle.std.proofs.Common.{◌≡◌, ◌++◌, take}
 use Rattle.std.specs.List.{flat_map}
-use Rattle.cecil_top.specs.Asking.{IsAsked}
 use Rattle.cecil_top.specs.Lines.{member_line}
 use Rattle.cecil_top.proofs.show.add_members.Given as goal
 
 -- the lines so far
 abbrev pub invariant-loop-table : goal.invariant-loop-table
-invariant-loop-table l = record {
-  asked : IsAsked l.initial.core l.core;
-  lines : l.text ≡ l.initial.text ++ flat_map (member_line l.initial.core.0 l.token) (take l.table-index l.tables);
-}
+invariant-loop-table l = l.text ≡ l.initial.text ++ flat_map (member_line l.core.0 l.token) (take l.table-index l.tables)
