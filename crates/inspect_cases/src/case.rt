@@ -1,8 +1,9 @@
 use crate::digest::{EMPTY, go_on};
 use crate::number::{byte, number, place};
 use crate::run::{Outcome, Setting, content, run};
+use crate::steps;
 use cecil_top::status_line;
-use cil_base::NoMemory;
+use cil_base::{NoMemory, Token};
 use cil_outside::Got;
 use std::alloc::Global;
 use std::fs;
@@ -20,6 +21,8 @@ enum Runs {
     Bytes(usize, usize, u8),
     /// None: what the folder gives within a limit of bytes is told.
     Content(u64),
+    /// None: the steps on a core that ask for the row of this token are taken.
+    Steps(u64),
 }
 
 /// The bytes of a file of the current folder; none where it cannot be read.
@@ -74,6 +77,7 @@ fn change(setting: &mut Setting, text: &str) -> Result<Option<Runs>, NoMemory> {
         Some("write") => setting.failing_writes.push(number(first))?,
         Some("sound") => setting.sound = true,
         Some("content") => return Ok(Some(Runs::Content(number(first)))),
+        Some("steps") => return Ok(Some(Runs::Steps(number(first)))),
         Some("cuts") => return Ok(Some(Runs::Cuts(place(first), place(second)))),
         Some("bytes") => {
             let byte = byte(parts.next());
@@ -184,12 +188,23 @@ fn told(alloc: Global, case: u64, got: &Got) -> Result<Vec<u8>, NoMemory> {
     Ok(Vec::from_slice(alloc, text.as_bytes())?)
 }
 
+/// The line of the steps on a core of the setting's file.
+fn taken(alloc: Global, case: u64, setting: &Setting, token: u64) -> Result<Vec<u8>, NoMemory> {
+    let file = match &setting.bytes {
+        Some(bytes) => Vec::from_slice(alloc, bytes.as_slice())?,
+        None => Vec::new(alloc),
+    };
+    let token = Token::from_number((token % 0x1_0000_0000) as u32);
+    steps::line(alloc, case, file, token)
+}
+
 /// What is printed of a case.
 pub fn answer(rt: &HostRuntime, case: u64, line: &str) -> Result<Vec<u8>, NoMemory> {
     let alloc = rt.alloc();
     let (mut setting, runs) = setting(alloc, rt, line)?;
     let sum = match runs {
         Runs::Once => return lines(alloc, case, &run(alloc, &setting)?),
+        Runs::Steps(token) => return taken(alloc, case, &setting, token),
         Runs::Content(limit) => return told(alloc, case, &content(alloc, &setting, limit)?),
         Runs::Cuts(from, to) => cuts(alloc, &mut setting, from, to)?,
         Runs::Bytes(from, to, byte) => bytes(alloc, &mut setting, from, to, byte)?,

@@ -13,6 +13,7 @@
 //! | `read CALL` | the read of this number fails |
 //! | `write CALL` | the write of this number fails |
 //! | `content LIMIT` | runs nothing, and prints what the folder gives for FILE within a limit of bytes |
+//! | `steps TOKEN` | runs nothing; two callers want the row of a token and publish it, and the answers are printed |
 //! | `sound` | a folder and an outlet of which no call fails |
 //! | `cuts FROM TO` | runs once for each length, and prints a digest of all statuses, lines and texts |
 //! | `bytes FROM TO BYTE` | runs once with each of these places set to the byte, and prints the digest |
@@ -22,6 +23,7 @@ mod case;
 mod digest;
 mod number;
 mod run;
+mod steps;
 
 use cil_base::NoMemory;
 use std::io::{self, ErrorKind, Write};
