@@ -1,12 +1,8 @@
 -- A history has no edits yet: the graph after it is that of the image.
-use Rattle.std.proofs.Common.{◌≡◌, refl, sym, ◌∙◌, ap, ℕ, suc, List, [], ◌∷◌, ◌++◌, length}
-use Rattle.std.specs.List.{fold}
-use Rattle.node_model.specs.Graph.{Graph, edited, graph_of, untouched}
-use Rattle.node_model.specs.declared.entry.By.{By}
+use Rattle.std.proofs.Common.{◌≡◌, refl, sym, ◌∙◌, ap, ℕ, suc, List, [], ◌∷◌, length}
+use Rattle.node_model.specs.Graph.{graph_of, untouched}
 use Rattle.node_model.specs.declared.entry.Entry.{Entry}
 use Rattle.node_model.specs.declared.entry.Entry.TheVariants.{Fill}
-use Rattle.node_model.specs.declared.entry.Why.{Why}
-use Rattle.node_model.specs.declared.key.Key.{Key}
 use Rattle.lazy_core.specs.History.{edits, fills, graph_after}
 
 pub no_edits : (h : List Entry) → edits h ≡ []

@@ -5,10 +5,8 @@ use Rattle.node_model.specs.Immediate.{read}
 use Rattle.node_model.specs.Look.{look}
 use Rattle.node_model.specs.Questions.{query_walk}
 use Rattle.node_model.specs.Replies.{reply}
-use Rattle.node_model.specs.declared.entry.By.{By}
 use Rattle.node_model.specs.declared.entry.Entry.{Entry}
 use Rattle.node_model.specs.declared.entry.Entry.TheVariants.{Fill}
-use Rattle.node_model.specs.declared.entry.Why.{Why}
 use Rattle.node_model.specs.declared.key.Key.{Key}
 use Rattle.node_model.specs.declared.query.Query.{Query}
 use Rattle.node_model.specs.declared.query.Query.TheVariants as queries

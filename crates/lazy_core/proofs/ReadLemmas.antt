@@ -1,5 +1,5 @@
 -- What a key holds in the file is of its own kind, and a fault names it.
-use Rattle.std.proofs.Common.{◌≡◌, refl, ap, ℕ, Bool, true, false, List}
+use Rattle.std.proofs.Common.{◌≡◌, refl, ℕ, Bool, true, false, List}
 use Rattle.std.specs.Prelude.{Option, Some, None, ◌==◌, bit_and, codes, if◌then◌else◌}
 use Rattle.cil_base.specs.Token.{Token}
 use Rattle.il_code.specs.Body.{Body as BodyOf}

@@ -1,18 +1,16 @@
 -- What is said to a query by the one key that it looks at.
-use Rattle.std.proofs.Common.{◌≡◌, refl, sym, ◌∙◌, ap, subst, ℕ, Bool, true, false, List, [], ◌∷◌, cond, find, length}
+use Rattle.std.proofs.Common.{◌≡◌, refl, sym, ◌∙◌, ap, ℕ, Bool, true, false, List, [], ◌∷◌, cond, find, length}
 use Rattle.std.specs.Prelude.{Option, Some, None, Result, Ok, Err, not, if◌then◌else◌, ◌&&◌, ◌||◌}
-use Rattle.std.specs.List.{list_any}
-use Rattle.node_model.specs.Graph.{Graph, Status, Absent, Live, untouched}
+use Rattle.node_model.specs.Graph.{Graph, Absent, Live, untouched}
 use Rattle.node_model.specs.KeyKinds.{has_kind}
 use Rattle.node_model.specs.Keys.{image_rows, is_key, is_key_there, is_of_root, is_row, token_of_key}
 use Rattle.node_model.specs.Look.{key_status}
-use Rattle.node_model.specs.Questions.{early_reply, key_reply, key_walk, query_key, query_walk, status_reply}
-use Rattle.node_model.specs.Replies.{all_slots, reach, reply, reply_by, unless_early}
-use Rattle.node_model.specs.Walk.{Held, Halt, Lacks, Faulty, looked, part, said, then_looked}
+use Rattle.node_model.specs.Questions.{early_reply, query_key, query_walk, status_reply}
+use Rattle.node_model.specs.Replies.{reach, reply, reply_by, unless_early}
+use Rattle.node_model.specs.Walk.{Halt, part, then_looked}
 use Rattle.node_model.specs.declared.entry.Entry.{Entry}
 use Rattle.node_model.specs.declared.key.Key.{Key}
 use Rattle.node_model.specs.declared.query.Query.{Query}
-use Rattle.node_model.specs.declared.query.Query.TheVariants as queries
 use Rattle.node_model.specs.declared.reply.Reply.{Reply}
 use Rattle.node_model.specs.declared.reply.Reply.TheVariants as replies
 use Rattle.lazy_core.specs.History.{fills, filled, graph_after}

@@ -1,11 +1,10 @@
 -- A key that is needed is wanted.
-use Rattle.std.proofs.Common.{◌≡◌, refl, sym, ◌∙◌, ap, subst, ℕ, Bool, true, false, List, [], ◌∷◌, length, take, ◌||◌, arith}
+use Rattle.std.proofs.Common.{◌≡◌, refl, sym, ◌∙◌, subst, ℕ, Bool, true, false, List, length, ◌||◌, arith}
 use Rattle.std.specs.Prelude.{Option, Some, None}
 use Rattle.std.proofs.Math.Seq.{take-length}
 use Rattle.std.specs.List.{list_any}
 use Rattle.node_model.specs.Keys.{same_key}
 use Rattle.node_model.specs.Questions.{query_key}
-use Rattle.node_model.specs.Replies.{unless_early}
 use Rattle.node_model.specs.declared.entry.Entry.{Entry}
 use Rattle.node_model.specs.declared.entry.Why.TheVariants as whys
 use Rattle.node_model.specs.declared.key.Key.{Key}
@@ -13,7 +12,7 @@ use Rattle.node_model.specs.declared.query.Query.{Query}
 use Rattle.node_model.specs.declared.reply.Reply.{Reply}
 use Rattle.lazy_core.specs.History.{filled, graph_after}
 use Rattle.lazy_core.specs.Legal.{WasWanted, reach_why}
-use Rattle.lazy_core.specs.Steps.{NeedIsWanted, peeked}
+use Rattle.lazy_core.specs.Steps.{NeedIsWanted}
 use Rattle.lazy_core.specs.declared.wanted.Peek.TheVariants.{Need}
 use Rattle.lazy_core.specs.inner.Replies.{early_of, peeked_key}
 use Rattle.lazy_core.proofs.KeyLemmas.{same_self}

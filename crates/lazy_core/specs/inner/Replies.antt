@@ -1,5 +1,5 @@
 -- Replies by the one key that a query looks at, as the core finds them. No public contract cites these words.
-use Rattle.std.specs.Prelude.{ℕ, Bool, true, false, List, Option, Some, None, Ok, if◌then◌else◌}
+use Rattle.std.specs.Prelude.{ℕ, Bool, true, false, List, Option, Some, None, Ok}
 use Rattle.node_model.specs.Graph.{Graph}
 use Rattle.node_model.specs.Look.{key_status}
 use Rattle.node_model.specs.Questions.{status_reply, value_reply}
