@@ -12,7 +12,8 @@ use crate::pieces::add_hex;
 use crate::row::add_row;
 use cil_base::{Bytes, List, NoMemory, Token};
 use node_model::{BodyValue, Key, Reply, ResourceValue};
-use sig_tree::{Sig, print_sig};
+use sig_text::print_sig;
+use sig_tree::Sig;
 use std::alloc::Global;
 
 /// Adds tokens, each after a space.

@@ -8,7 +8,8 @@ use cil_base::{NoMemory, Token};
 use md_heaps::blob_at;
 use md_schema::table;
 use node_model::{Fault, FaultKind, Key, Slot, Value, sig_column};
-use sig_tree::{Sig, SigTree, parse_sig};
+use sig_read::parse_sig;
+use sig_tree::{Sig, SigTree};
 use std::alloc::Global;
 
 /// Whether a table has signatures of this sort (ECMA-335 II.22, the clause of each table).

@@ -1,4 +1,3 @@
-pub mod Fuel
 pub mod Rows
 pub mod Strips
 pub mod Leaves
@@ -16,4 +15,5 @@ mod StandardFacts
 pub mod Keeps
 pub mod Names
 pub mod TokenRows
+pub mod TokenSteps
 pub mod Tokens

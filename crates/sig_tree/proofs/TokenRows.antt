@@ -1,6 +1,5 @@
 -- The type tokens of a type, at one level of it.
 use Rattle.std.proofs.Common.{◌≡◌, ℕ, ◌+◌, List, [], ◌∷◌, ◌++◌, Bool, true, false, cond, ℤ, map, codes, refl, sym, ap, ◌∙◌}
-use Rattle.std.specs.List.{flat_map}
 use Rattle.std.specs.Fmt.{decimal, signed_decimal}
 use Rattle.std.proofs.lemmas.Grind.{flat_map-append}
 use Rattle.std.proofs.lemmas.List.{append-nil}
@@ -8,8 +7,9 @@ use Rattle.cil_base.specs.Token.{Token}
 use Rattle.sig_tree.specs.Spelling.{with_sentinel, sentinel_at, sentinel_stands}
 use Rattle.sig_tree.specs.Names.{prim_name, kind_name}
 use Rattle.sig_tree.specs.Printed.{chars, commas, arity_pieces, type_kind, type_pieces_level, method_pieces_level, type_pieces, method_pieces, types_pieces, tokens, piece_token}
+use Rattle.sig_tree.specs.inner.OwnTokens.{row, rows, type_tokens, types_tokens, method_tokens}
 use Rattle.sig_tree.specs.declared.piece.Piece.{Piece}
-use Rattle.sig_tree.specs.declared.piece.Piece.TheVariants.{Char, Name}
+use Rattle.sig_tree.specs.declared.piece.Piece.TheVariants.{Name}
 use Rattle.sig_tree.specs.declared.tree.Arity.{Arity}
 use Rattle.sig_tree.specs.declared.tree.Arity.TheVariants.{Plain as not_generic, Generic}
 use Rattle.sig_tree.specs.declared.tree.Sentinel.{Sentinel}
@@ -20,22 +20,6 @@ use Rattle.sig_tree.specs.declared.tree.TypeSig.TheViews.{roll-TypeSig, rolls-Pr
 use Rattle.sig_tree.specs.declared.tree.TypeSig.TheFolds.{fold-roll-TypeSig, fold_out-MethodSig, map-TypeSig}
 use Rattle.sig_tree.specs.declared.tree.MethodSig.{MethodSig}
 use Rattle.sig_tree.specs.declared.tree.SigTree.TheVariants.{Property}
-
--- the tokens of pieces, of a type, of types and of a method
-abbrev pub row : List Piece → List Token
-row ps = flat_map piece_token ps
-
-abbrev pub type_tokens : TypeSig → List Token
-type_tokens t = row (type_pieces t)
-
-abbrev pub rows : List (List Piece) → List Token
-rows parts = flat_map row parts
-
-abbrev pub types_tokens : List TypeSig → List Token
-types_tokens ts = rows (map type_pieces ts)
-
-abbrev pub method_tokens : MethodSig → List Token
-method_tokens m = row (method_pieces m)
 
 -- a text has no tokens
 no_tokens : (text : List ℕ) → row (chars text) ≡ []

@@ -1,8 +1,9 @@
 -- Tokens in the places of a signature's own: with none it stays as it is, and with as many as it has they are its tokens.
-use Rattle.std.proofs.Common.{◌≡◌, ℕ, suc, zero, ◌+◌, List, [], ◌∷◌, ◌++◌, Bool, ℤ, length, map, drop, codes, refl, sym, ap, subst, ◌∙◌, append_assoc, arith}
+use Rattle.std.proofs.Common.{◌≡◌, ℕ, suc, zero, ◌+◌, List, [], ◌∷◌, ◌++◌, length, map, drop, codes, refl, sym, ap, subst, ◌∙◌, append_assoc, arith}
 use Rattle.std.proofs.lemmas.List.{length-append, append-nil, nil_from_length}
 use Rattle.cil_base.specs.Token.{Token}
 use Rattle.sig_tree.specs.Printed.{tokens, type_pieces}
+use Rattle.sig_tree.specs.inner.OwnTokens.{type_tokens, types_tokens, method_tokens}
 use Rattle.sig_tree.specs.Replaced.{next, type_taking, method_taking, type_with, method_with, types_with, replaced}
 use Rattle.sig_tree.specs.declared.tree.TypeSig.{TypeSig}
 use Rattle.sig_tree.specs.declared.tree.TypeSig.TheVariants.{Prim, Ptr, ByRef, Value, Class, Var, MVar, SzArray, Array, Inst, FnPtr, Mod, Pinned}
@@ -35,13 +36,13 @@ record Keeps (A : Type 0) (own : A → List Token) (put : A → List Token → A
   pub takes : (ts more : List Token) → length ts ≡ length (own x) → (own (put x (ts ++ more)).0 ≡ ts) × ((put x (ts ++ more)).1 ≡ more)
 
 abbrev TypeKeeps : TypeSig → Type 0
-TypeKeeps t = Keeps TypeSig rows.type_tokens type_with t
+TypeKeeps t = Keeps TypeSig type_tokens type_with t
 
 abbrev TypesKeep : List TypeSig → Type 0
-TypesKeep ts = Keeps (List TypeSig) rows.types_tokens types_with ts
+TypesKeep ts = Keeps (List TypeSig) types_tokens types_with ts
 
 abbrev MethodKeeps : MethodSig → Type 0
-MethodKeeps m = Keeps MethodSig rows.method_tokens method_with m
+MethodKeeps m = Keeps MethodSig method_tokens method_with m
 
 -- a type's tokens are placed level by level
 taken : (x : TypeSig-F TypeSig MethodSig) (t : TypeSig) (ts : List Token) → roll-TypeSig x ≡ t
@@ -51,53 +52,53 @@ taken x t ts h =
     ∙ ap (λ (f : List Token → TypeSig × List Token). f ts) (fold-roll-TypeSig (List Token → TypeSig × List Token) (List Token → MethodSig × List Token) type_taking method_taking x)
 
 -- a type without tokens
-without : (t : TypeSig) → rows.type_tokens t ≡ [] → ((ts : List Token) → type_with t ts ≡ (t, ts)) → TypeKeeps t
+without : (t : TypeSig) → type_tokens t ≡ [] → ((ts : List Token) → type_with t ts ≡ (t, ts)) → TypeKeeps t
 without t none place = record {
   stays = place [];
   takes = λ ts more h.
       let e = nil_from_length ts (h ∙ ap length none) in (
-        ap (λ q. rows.type_tokens q.0) (place (ts ++ more)) ∙ none ∙ sym e,
+        ap (λ q. type_tokens q.0) (place (ts ++ more)) ∙ none ∙ sym e,
         ap (λ q. q.1) (place (ts ++ more)) ∙ ap (λ ts. ts ++ more) e,
       );
 }
 
 -- one token in the place of one
-single : (f : Token → TypeSig) → ((a : Token) → rows.type_tokens (f a) ≡ a ∷ []) → ((a : Token) (ts : List Token) → type_with (f a) ts ≡ (f (next a ts), drop 1 ts)) → (a : Token) (ts more : List Token)
-    → length ts ≡ 1 → (rows.type_tokens (type_with (f a) (ts ++ more)).0 ≡ ts) × ((type_with (f a) (ts ++ more)).1 ≡ more)
+single : (f : Token → TypeSig) → ((a : Token) → type_tokens (f a) ≡ a ∷ []) → ((a : Token) (ts : List Token) → type_with (f a) ts ≡ (f (next a ts), drop 1 ts)) → (a : Token) (ts more : List Token)
+    → length ts ≡ 1 → (type_tokens (type_with (f a) (ts ++ more)).0 ≡ ts) × ((type_with (f a) (ts ++ more)).1 ≡ more)
 single f own place a [] more h = absurd (omega arith)
-single f own place a (t ∷ []) more h = (ap (λ q. rows.type_tokens q.0) (place a (t ∷ more)) ∙ own t, ap (λ q. q.1) (place a (t ∷ more)))
+single f own place a (t ∷ []) more h = (ap (λ q. type_tokens q.0) (place a (t ∷ more)) ∙ own t, ap (λ q. q.1) (place a (t ∷ more)))
 single f own place a (t ∷ u ∷ ts) more h = absurd (omega arith)
 
-of_token : (f : Token → TypeSig) → ((a : Token) → rows.type_tokens (f a) ≡ a ∷ []) → ((a : Token) (ts : List Token) → type_with (f a) ts ≡ (f (next a ts), drop 1 ts)) → (a : Token) → TypeKeeps (f a)
+of_token : (f : Token → TypeSig) → ((a : Token) → type_tokens (f a) ≡ a ∷ []) → ((a : Token) (ts : List Token) → type_with (f a) ts ≡ (f (next a ts), drop 1 ts)) → (a : Token) → TypeKeeps (f a)
 of_token f own place a = record {
   stays = place a [];
   takes = λ ts more h. single f own place a ts more (h ∙ ap length (own a));
 }
 
 -- a type around one that stands for its tokens
-around : (A : Type 0) (own : A → List Token) (put : A → List Token → A × List Token) (f : A → TypeSig) → ((x : A) → rows.type_tokens (f x) ≡ own x)
+around : (A : Type 0) (own : A → List Token) (put : A → List Token → A × List Token) (f : A → TypeSig) → ((x : A) → type_tokens (f x) ≡ own x)
     → ((x : A) (ts : List Token) → type_with (f x) ts ≡ (f (put x ts).0, (put x ts).1)) → (x : A) → Keeps A own put x → TypeKeeps (f x)
 around A own put f same place x k = record {
   stays = place x [] ∙ ap (λ q. (f q.0, q.1)) k.stays;
   takes = λ ts more h.
       let p = k.takes ts more (h ∙ ap length (same x)) in (
-        ap (λ q. rows.type_tokens q.0) (place x (ts ++ more)) ∙ same (put x (ts ++ more)).0 ∙ p.0,
+        ap (λ q. type_tokens q.0) (place x (ts ++ more)) ∙ same (put x (ts ++ more)).0 ∙ p.0,
         ap (λ q. q.1) (place x (ts ++ more)) ∙ p.1,
       );
 }
 
 -- a type with a token before others
-fronted : (A : Type 0) (own : A → List Token) (put : A → List Token → A × List Token) (f : Token → A → TypeSig) → ((a : Token) (x : A) → rows.type_tokens (f a x) ≡ a ∷ own x)
+fronted : (A : Type 0) (own : A → List Token) (put : A → List Token → A × List Token) (f : Token → A → TypeSig) → ((a : Token) (x : A) → type_tokens (f a x) ≡ a ∷ own x)
     → ((a : Token) (x : A) (ts : List Token) → type_with (f a x) ts ≡ (f (next a ts) (put x (drop 1 ts)).0, (put x (drop 1 ts)).1)) → (a : Token) (x : A) → Keeps A own put x → (ts more : List Token)
-    → length ts ≡ suc (length (own x)) → (rows.type_tokens (type_with (f a x) (ts ++ more)).0 ≡ ts) × ((type_with (f a x) (ts ++ more)).1 ≡ more)
+    → length ts ≡ suc (length (own x)) → (type_tokens (type_with (f a x) (ts ++ more)).0 ≡ ts) × ((type_with (f a x) (ts ++ more)).1 ≡ more)
 fronted A own put f same place a x k [] more h = absurd (omega arith)
 fronted A own put f same place a x k (t ∷ ts) more h =
     let p = k.takes ts more (omega arith) in (
-      ap (λ q. rows.type_tokens q.0) (place a x (t ∷ (ts ++ more))) ∙ same t (put x (ts ++ more)).0 ∙ ap (λ ts. t ∷ ts) p.0,
+      ap (λ q. type_tokens q.0) (place a x (t ∷ (ts ++ more))) ∙ same t (put x (ts ++ more)).0 ∙ ap (λ ts. t ∷ ts) p.0,
       ap (λ q. q.1) (place a x (t ∷ (ts ++ more))) ∙ p.1,
     )
 
-headed : (A : Type 0) (own : A → List Token) (put : A → List Token → A × List Token) (f : Token → A → TypeSig) → ((a : Token) (x : A) → rows.type_tokens (f a x) ≡ a ∷ own x)
+headed : (A : Type 0) (own : A → List Token) (put : A → List Token → A × List Token) (f : Token → A → TypeSig) → ((a : Token) (x : A) → type_tokens (f a x) ≡ a ∷ own x)
     → ((a : Token) (x : A) (ts : List Token) → type_with (f a x) ts ≡ (f (next a ts) (put x (drop 1 ts)).0, (put x (drop 1 ts)).1)) → (a : Token) (x : A) → Keeps A own put x → TypeKeeps (f a x)
 headed A own put f same place a x k = record {
   stays = place a x [] ∙ ap (λ q. (f a q.0, q.1)) k.stays;
@@ -127,7 +128,7 @@ types_keep (e ∷ es) =
     let l = types_keep es in
     let others = map (λ (e : (t : TypeSig) × TypeKeeps t). e.0) es in record {
       stays = ap (λ q. (q.0 ∷ (types_with others q.1).0, (types_with others q.1).1)) k.stays ∙ ap (λ q. (e.0 ∷ q.0, q.1)) l.stays;
-      takes = λ ts more h. pair TypeSig (List TypeSig) rows.type_tokens type_with rows.types_tokens types_with e.0 others k l ts more h;
+      takes = λ ts more h. pair TypeSig (List TypeSig) type_tokens type_with types_tokens types_with e.0 others k l ts more h;
     }
 
 -- a method, field by field, with other types
@@ -145,10 +146,10 @@ method_keeps m k l = record {
       ∙ ap (λ q. (typed m m.ret q.0, q.1)) l.stays
       ∙ ap (λ m. (m, [])) (roll-out-MethodSig m);
   takes = λ ts more h.
-      let p = pair TypeSig (List TypeSig) rows.type_tokens type_with rows.types_tokens types_with m.ret m.params k l ts more (h ∙ ap length (rows.method_row m)) in
+      let p = pair TypeSig (List TypeSig) type_tokens type_with types_tokens types_with m.ret m.params k l ts more (h ∙ ap length (rows.method_row m)) in
       let ret = (type_with m.ret (ts ++ more)).0 in
       let params = (types_with m.params (type_with m.ret (ts ++ more)).1).0 in (
-        ap (λ q. rows.method_tokens q.0) (method_taken m (ts ++ more)) ∙ rows.method_row (typed m ret params) ∙ p.0,
+        ap (λ q. method_tokens q.0) (method_taken m (ts ++ more)) ∙ rows.method_row (typed m ret params) ∙ p.0,
         ap (λ q. q.1) (method_taken m (ts ++ more)) ∙ p.1,
       );
 }
@@ -162,9 +163,9 @@ KeptMethod = (m : MethodSig) × MethodKeeps m
 abbrev bare : TypeSig-F KeptType KeptMethod → TypeSig-F TypeSig MethodSig
 bare y = map-TypeSig KeptType KeptMethod TypeSig MethodSig (λ e. e.0) (λ e. e.0) y
 
-wrapped : (f : TypeSig → TypeSig) (x : TypeSig → TypeSig-F TypeSig MethodSig) → ((t : TypeSig) → roll-TypeSig (x t) ≡ f t) → ((t : TypeSig) → rows.type_tokens (f t) ≡ rows.type_tokens t)
+wrapped : (f : TypeSig → TypeSig) (x : TypeSig → TypeSig-F TypeSig MethodSig) → ((t : TypeSig) → roll-TypeSig (x t) ≡ f t) → ((t : TypeSig) → type_tokens (f t) ≡ type_tokens t)
     → ((t : TypeSig) (ts : List Token) → type_with (f t) ts ≡ (f (type_with t ts).0, (type_with t ts).1)) → (e : KeptType) → TypeKeeps (roll-TypeSig (x e.0))
-wrapped f x rolls same place e = subst TypeKeeps (sym (rolls e.0)) (around TypeSig rows.type_tokens type_with f same place e.0 e.1)
+wrapped f x rolls same place e = subst TypeKeeps (sym (rolls e.0)) (around TypeSig type_tokens type_with f same place e.0 e.1)
 
 level_keeps : (y : TypeSig-F KeptType KeptMethod) → TypeKeeps (roll-TypeSig (bare y))
 level_keeps (TypeSig-F.Prim code) = subst TypeKeeps (sym (rolls-Prim code)) (without (Prim code) (rows.tokens-Prim code) (λ ts. taken (TypeSig-F.Prim code) (Prim code) ts (rolls-Prim code)))
@@ -181,13 +182,13 @@ level_keeps (TypeSig-F.Array e rank sizes lows) =
     (λ t ts. taken (TypeSig-F.Array t rank sizes lows) (Array t rank sizes lows) ts (rolls-Array t rank sizes lows)) e
 level_keeps (TypeSig-F.Inst value of es) =
     let args = map (λ (e : KeptType). e.0) es in
-    subst TypeKeeps (sym (rolls-Inst value of args)) (headed (List TypeSig) rows.types_tokens types_with (λ of args. Inst value of args) (λ of args. rows.tokens-Inst value of args)
+    subst TypeKeeps (sym (rolls-Inst value of args)) (headed (List TypeSig) types_tokens types_with (λ of args. Inst value of args) (λ of args. rows.tokens-Inst value of args)
     (λ of args ts. taken (TypeSig-F.Inst value of args) (Inst value of args) ts (rolls-Inst value of args)) of args (types_keep es))
 level_keeps (TypeSig-F.Mod required of e) =
-    subst TypeKeeps (sym (rolls-Mod required of e.0)) (headed TypeSig rows.type_tokens type_with (λ of t. Mod required of t) (λ of t. rows.tokens-Mod required of t)
+    subst TypeKeeps (sym (rolls-Mod required of e.0)) (headed TypeSig type_tokens type_with (λ of t. Mod required of t) (λ of t. rows.tokens-Mod required of t)
     (λ of t ts. taken (TypeSig-F.Mod required of t) (Mod required of t) ts (rolls-Mod required of t)) of e.0 e.1)
 level_keeps (TypeSig-F.FnPtr e) =
-    subst TypeKeeps (sym (rolls-FnPtr e.0)) (around MethodSig rows.method_tokens method_with FnPtr rows.tokens-FnPtr (λ m ts. taken (TypeSig-F.FnPtr m) (FnPtr m) ts (rolls-FnPtr m)) e.0 e.1)
+    subst TypeKeeps (sym (rolls-FnPtr e.0)) (around MethodSig method_tokens method_with FnPtr rows.tokens-FnPtr (λ m ts. taken (TypeSig-F.FnPtr m) (FnPtr m) ts (rolls-FnPtr m)) e.0 e.1)
 
 type_step : (x : TypeSig-F TypeSig MethodSig) (y : TypeSig-F KeptType KeptMethod) → bare y ≡ x → TypeKeeps (roll-TypeSig x)
 type_step x y is = subst (λ z. TypeKeeps (roll-TypeSig z)) is (level_keeps y)
@@ -218,7 +219,7 @@ own (t ∷ ts) =
     let k = type_keeps t in
     let l = own ts in record {
       stays = ap (λ q. (q.0 ∷ (types_with ts q.1).0, (types_with ts q.1).1)) k.stays ∙ ap (λ q. (t ∷ q.0, q.1)) l.stays;
-      takes = λ us more h. pair TypeSig (List TypeSig) rows.type_tokens type_with rows.types_tokens types_with t ts k l us more h;
+      takes = λ us more h. pair TypeSig (List TypeSig) type_tokens type_with types_tokens types_with t ts k l us more h;
     }
 
 -- what a copy is
@@ -240,20 +241,20 @@ tree_untouched (Plain t) = ap (λ q. Plain q.0) (type_untouched t)
 alone : (A : Type 0) (own : A → List Token) (put : A → List Token → A × List Token) (x : A) → Keeps A own put x → (ts : List Token) → length ts ≡ length (own x) → own (put x ts).0 ≡ ts
 alone A own put x k ts h = ap (λ ts. own (put x ts).0) (sym (append-nil ts)) ∙ (k.takes ts [] h).0
 
-listed : (f : List TypeSig → SigTree) → ((ts : List TypeSig) → tokens (f ts) ≡ rows.types_tokens ts) → (types : List TypeSig) (ts : List Token) → length ts ≡ length (tokens (f types)) → tokens (f (types_with types ts).0) ≡ ts
-listed f same types ts h = same (types_with types ts).0 ∙ alone (List TypeSig) rows.types_tokens types_with types (own types) ts (h ∙ ap length (same types))
+listed : (f : List TypeSig → SigTree) → ((ts : List TypeSig) → tokens (f ts) ≡ types_tokens ts) → (types : List TypeSig) (ts : List Token) → length ts ≡ length (tokens (f types)) → tokens (f (types_with types ts).0) ≡ ts
+listed f same types ts h = same (types_with types ts).0 ∙ alone (List TypeSig) types_tokens types_with types (own types) ts (h ∙ ap length (same types))
 
 pub tree_tokens : (sig : SigTree) (ts : List Token) → length ts ≡ length (tokens sig) → tokens (replaced sig ts) ≡ ts
-tree_tokens (Method m) ts h = alone MethodSig rows.method_tokens method_with m (method_keeps_all m) ts h
+tree_tokens (Method m) ts h = alone MethodSig method_tokens method_with m (method_keeps_all m) ts h
 tree_tokens (Field t) ts h =
     rows.behind (codes "field ") (type_pieces (type_with t ts).0)
-    ∙ alone TypeSig rows.type_tokens type_with t (type_keeps t) ts (h ∙ ap length (rows.behind (codes "field ") (type_pieces t)))
+    ∙ alone TypeSig type_tokens type_with t (type_keeps t) ts (h ∙ ap length (rows.behind (codes "field ") (type_pieces t)))
 tree_tokens (Locals types) ts h = listed Locals (rows.bracketed (codes "locals(") (codes ")")) types ts h
 tree_tokens (Property this t params) ts h =
     let k = type_keeps t in
     let l = own params in
-    let p = pair TypeSig (List TypeSig) rows.type_tokens type_with rows.types_tokens types_with t params k l ts [] (h ∙ ap length (rows.property_row this t params)) in
+    let p = pair TypeSig (List TypeSig) type_tokens type_with types_tokens types_with t params k l ts [] (h ∙ ap length (rows.property_row this t params)) in
     rows.property_row this (type_with t ts).0 (types_with params (type_with t ts).1).0
-    ∙ subst (λ us. rows.type_tokens (type_with t us).0 ++ rows.types_tokens (types_with params (type_with t us).1).0 ≡ ts) (append-nil ts) p.0
+    ∙ subst (λ us. type_tokens (type_with t us).0 ++ types_tokens (types_with params (type_with t us).1).0 ≡ ts) (append-nil ts) p.0
 tree_tokens (MethodInst args) ts h = listed MethodInst (rows.bracketed (codes "inst<") (codes ">")) args ts h
-tree_tokens (Plain t) ts h = alone TypeSig rows.type_tokens type_with t (type_keeps t) ts h
+tree_tokens (Plain t) ts h = alone TypeSig type_tokens type_with t (type_keeps t) ts h

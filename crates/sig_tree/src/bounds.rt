@@ -10,7 +10,7 @@ use crate::tree::{Arity, MethodSig, Sentinel, SigTree, TypeSig};
 use crate::type_token::names_type;
 
 /// The greatest depth of a signature.
-pub(crate) const DEPTH_LIMIT: u32 = 64;
+pub const DEPTH_LIMIT: u32 = 64;
 
 /// Whether a signature keeps its bounds: depth, codes and sentinels, numbers and type tokens.
 #[tactic(auto, using(crate::proofs::Rows::list_all_append))]
@@ -88,7 +88,7 @@ fn list_keeps(types: &[TypeSig], depth: u32) -> bool
 }
 
 /// Whether a byte is an element type of one byte (ECMA-335 II.23.1.16).
-pub(crate) fn is_prim(code: u8) -> bool
+pub fn is_prim(code: u8) -> bool
     ensures { result ≡ is_prim code }
 {
     matches!(
@@ -97,8 +97,8 @@ pub(crate) fn is_prim(code: u8) -> bool
     )
 }
 
-/// Whether a number is a calling convention.
-pub(crate) fn is_kind(kind: u8) -> bool
+/// Whether a number is a calling convention that is read: 0 to 5, or 9 (ECMA-335 II.23.2.1 to II.23.2.3).
+pub fn is_kind(kind: u8) -> bool
     ensures { result ≡ is_kind kind }
 {
     kind <= 5 || kind == 9

@@ -54,8 +54,8 @@ impl Sig {
         &self.tree
     }
 
-    /// The signature of a tree that keeps the bounds.
-    pub(crate) fn of_bounded(tree: SigTree) -> Sig
+    /// The signature of a tree that is known to keep the bounds, which are not tried again.
+    pub fn of_bounded(tree: SigTree) -> Sig
         requires { IsBoundedSig tree }
         ensures { result ≡ tree }
     {

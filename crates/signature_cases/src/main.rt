@@ -1,5 +1,5 @@
-//! Reads a case a line, calls `sig_tree`, and prints the case's number and the answer. The answers that are wanted were made
-//! from the lists of ECMA-335 (II.23.1.16 and II.23.2), and not by this program.
+//! Reads a case a line, calls `sig_tree`, `sig_read` and `sig_text`, and prints the case's number and the answer. The
+//! answers that are wanted were made from the lists of ECMA-335 (II.23.1.16 and II.23.2), and not by this program.
 //!
 //! SORT is `type` for a type alone and `sig` for a signature of another sort, HEX its bytes.
 //!

@@ -6,7 +6,9 @@ ghost use Rattle.sig_tree.specs.Replaced.{names_type};
 use crate::shown::shown;
 use crate::words::{bytes, names_from, tokens_from, word};
 use cil_base::{Bytes, List, NoMemory, Token};
-use sig_tree::{Sig, names_type, parse_sig, print_named, same_sig, sig_tokens, with_tokens};
+use sig_read::parse_sig;
+use sig_text::print_named;
+use sig_tree::{Sig, names_type, same_sig, sig_tokens, with_tokens};
 use std::alloc::Global;
 
 /// The signature whose sort and bytes these are.

@@ -1,5 +1,6 @@
 use cil_base::{Bytes, NoMemory};
-use sig_tree::{Sig, print_sig, sig_tokens, spell_sig};
+use sig_text::{print_sig, spell_sig};
+use sig_tree::{Sig, sig_tokens};
 use std::alloc::Global;
 
 /// The printed form of a signature, its type tokens and the bytes that it is spelled with, with `|` between them.

@@ -1,4 +1,4 @@
-use Rattle.std.proofs.Common.{◌≡◌, ◌<◌, ◌-◌, rules, arith}
+use Rattle.std.proofs.Common.{◌<◌, rules, arith}
 use Rattle.sig_tree.proofs.Keeps.{array_keeps, inst_keeps}
 use Rattle.sig_tree.proofs.bounds.+keeps.Goals as goal
 

@@ -1,7 +1,0 @@
-use Rattle.std.proofs.Common.{◌≡◌, take}
-use Rattle.std.specs.List.{flat_map}
-use Rattle.sig_tree.specs.Printed.{piece_token}
-use Rattle.sig_tree.proofs.print.sig_tokens.Given as goal
-
-abbrev pub invariant-loop-piece : goal.invariant-loop-piece
-invariant-loop-piece l = l.out ≡ flat_map piece_token (take l.piece-index l.piece-items)
