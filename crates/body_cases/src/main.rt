@@ -1,5 +1,6 @@
-//! Reads a case a line, calls `il_code` and `il_edit`, and prints the case's number and the answer. The answers that
-//! are wanted were made from the lists of ECMA-335 (II.25.4, III and VI.C.2), and not by this program.
+//! Reads a case a line, calls `il_code`, `il_read`, `il_write` and `il_edit`, and prints the case's number and the
+//! answer. The answers that are wanted were made from the lists of ECMA-335 (II.25.4, III and VI.C.2), and not by this
+//! program.
 //!
 //! | case | answer |
 //! |---|---|
@@ -21,7 +22,8 @@ mod words;
 mod written;
 
 use cil_base::NoMemory;
-use il_code::{OperandKind, decode_body, op_name, operand_kind};
+use il_code::{OperandKind, op_name, operand_kind};
+use il_read::decode_body;
 use std::alloc::Global;
 use std::io::{self, ErrorKind};
 use words::{bytes, code, tokens_from, word};

@@ -1,5 +1,6 @@
 use cil_base::{List, NoMemory};
-use il_code::{Body, BodyRefusal, encode_body, is_writable};
+use il_code::{Body, BodyRefusal};
+use il_write::{encode_body, is_writable};
 use std::alloc::Global;
 use std::fmt::Write;
 

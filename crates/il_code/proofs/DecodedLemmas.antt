@@ -1,7 +1,6 @@
 -- The body that is found is the one that is spelled.
-use Rattle.std.proofs.Common.{◌≡◌, ◌==◌, ◌+◌, ◌-◌, ◌<◌, ◌≤◌, ◌++◌, ℕ, zero, suc, List, [], ◌∷◌, length, map, take, drop, Bool, true, false, cond, Option, Some, None, refl, sym, ap, ◌∙◌, subst, arith, append_assoc, length-append, nat_le}
+use Rattle.std.proofs.Common.{◌≡◌, ◌==◌, ◌+◌, ◌<◌, ◌≤◌, ℕ, zero, suc, List, [], ◌∷◌, length, map, take, drop, Bool, true, false, cond, Option, Some, None, refl, ap, ◌∙◌, subst, arith, nat_le}
 use Rattle.std.specs.Prelude.{option_map}
-use Rattle.std.proofs.lemmas.List.{append-nil}
 use Rattle.std.proofs.lemmas.Bool.{lt-ltb, ltb-true}
 use Rattle.std.proofs.lemmas.Bool.Decides.{nat_tests}
 use Rattle.il_code.specs.declared.instr.Instr.{Instr}
@@ -12,8 +11,7 @@ use Rattle.cil_base.specs.Steps.{◌>>=◌}
 use Rattle.il_code.specs.Numbering.{places, each, numbered_instr, handlers_after}
 use Rattle.il_code.specs.Sections.{header_at}
 use Rattle.il_code.specs.Spelling.{Spells}
-use Rattle.il_code.proofs.CodeLemmas.{came, mapped, same_some, size_of-pos, stand-length}
-use Rattle.il_code.proofs.ItemLemmas.{with_front}
+use Rattle.il_code.proofs.CodeLemmas.{came, mapped, same_some, stand-length}
 use Rattle.il_code.proofs.SpellingLemmas.{body-found, body-known, body-is}
 
 -- a test that was passed
@@ -53,13 +51,14 @@ same_test a b e = grind (arith, nat_tests)
 less_test : (a b : ℕ) → a < b → (a == b) ≡ false
 less_test a b e = grind (arith, nat_tests)
 
-instrs-ended : (users b : List ℕ) (left p : ℕ) → p ≡ length b → instrs_from users b left p ≡ Some []
+-- the bytes end at the place
+pub instrs-ended : (users b : List ℕ) (left p : ℕ) → p ≡ length b → instrs_from users b left p ≡ Some []
 unfolding instrs_from
 instrs-ended users b zero p e = rw (same_test p (length b) e) refl
 instrs-ended users b (suc left) p e = rw (same_test p (length b) e) refl
 
 -- one instruction, or none
-instrs-step : (users b : List ℕ) (left p : ℕ) (o : Option Instr) → p < length b → instr_at users b p ≡ o
+pub instrs-step : (users b : List ℕ) (left p : ℕ) (o : Option Instr) → p < length b → instr_at users b p ≡ o
     → instrs_from users b (suc left) p ≡ (o >>= λ x. option_map (λ xs. x ∷ xs) (instrs_from users b left (p + size_of x)))
 unfolding instrs_from
 instrs-step users b left p o q h = rw (less_test p (length b) q, h) refl
@@ -79,53 +78,6 @@ code-found users b xs h = instrs-found users b (length b) 0 xs h
 code-only : (users b : List ℕ) (xs : List Instr) → Stand users b 0 xs → code_in users b ≡ Some xs
 unfolding code_in
 code-only users b xs s = instrs-only users b (length b) 0 xs (omega (arith, stand-length users b 0 xs s)) s
-
--- the instructions up to a place are read; no more can follow than bytes are left
-pub record Read (users b : List ℕ) (front : List Instr) (p : ℕ) : Type 0 where
-  pub within : p ≤ length b
-  pub few : length front ≤ p
-  pub whole : with_front front (instrs_from users b (length b - length front) p) ≡ code_in users b
-
-pub read-start : (users b : List ℕ) → Read users b [] 0
-unfolding code_in
-read-start users b = record { within = omega arith; few = omega arith; whole = unfronted (instrs_from users b (length b - 0) 0) ∙ ap (λ n. instrs_from users b n 0) none_gone }
-  where
-    none_gone : length b - 0 ≡ length b
-    none_gone = omega arith
-
-    unfronted : (o : Option (List Instr)) → with_front [] o ≡ o
-    unfronted None = refl
-    unfronted (Some xs) = refl
-
-front-longer : (front : List Instr) (x : Instr) (o : Option (List Instr)) → with_front front (option_map (λ xs. x ∷ xs) o) ≡ with_front (front ++ x ∷ []) o
-front-longer front x None = refl
-front-longer front x (Some xs) = ap Some (sym (append_assoc front (x ∷ []) xs))
-
--- one more is read
-pub read-more : (users b : List ℕ) (front : List Instr) (p : ℕ) (x : Instr) → p < length b → p + size_of x ≤ length b → instr_at users b p ≡ Some x → Read users b front p → Read users b (front ++ x ∷ []) (p + size_of x)
-read-more users b front p x q end h r =
-    let longer : length (front ++ x ∷ []) ≡ length front + 1 = length-append front (x ∷ []) in
-    let left = length b - length (front ++ x ∷ []) in
-    let one : length b - length front ≡ suc left = omega (arith, longer, r.few, q) in
-    record {
-      within = end;
-      few = omega (arith, longer, r.few, size_of-pos x);
-      whole = sym (front-longer front x (instrs_from users b left (p + size_of x))) ∙ ap (with_front front) (sym (ap (λ n. instrs_from users b n p) one ∙ instrs-step users b left p (Some x) q h)) ∙ r.whole;
-    }
-
--- no instruction stands at the place, so the bytes are no code
-pub read-stop : (users b : List ℕ) (front : List Instr) (p : ℕ) → p < length b → instr_at users b p ≡ None → Read users b front p → None ≡ code_in users b
-read-stop users b front p q h r =
-    let left = length b - length front - 1 in
-    let one : length b - length front ≡ suc left = omega (arith, r.few, q) in
-    ap (with_front front) (sym (ap (λ n. instrs_from users b n p) one ∙ instrs-step users b left p None q h)) ∙ r.whole
-
--- the end is reached
-pub read-over : (users b : List ℕ) (front : List Instr) (p : ℕ) → length b ≤ p → Read users b front p → Some front ≡ code_in users b
-read-over users b front p q r =
-    ap Some (sym (append-nil front))
-    ∙ ap (with_front front) (sym (instrs-ended users b (length b - length front) p (omega (arith, q, r.within))))
-    ∙ r.whole
 
 -- the body
 

@@ -2,7 +2,6 @@
 use Rattle.std.proofs.Common.{◌≡◌, Bool, true, false, Option, refl, sym, arith, inl, inr}
 use Rattle.std.specs.Prelude.{◌↔◌, IsTrue}
 use Rattle.il_code.specs.declared.kind.OperandKind as k
-use Rattle.il_code.specs.declared.kind.OperandKind.TheVariants as kind
 use Rattle.il_code.specs.declared.operand.Operand.{Operand}
 use Rattle.il_code.specs.declared.operand.Operand.TheVariants as of
 use Rattle.il_code.specs.Sound.{fits_kind}

@@ -1,5 +1,5 @@
 -- Numbers in place of places and back.
-use Rattle.std.proofs.Common.{◌≡◌, ◌==◌, ◌+◌, ◌<◌, ◌≤◌, ◌++◌, ℕ, suc, List, [], ◌∷◌, length, map, Bool, true, false, cond, Option, Some, None, refl, sym, ap, ◌∙◌, subst, arith, nat_lt}
+use Rattle.std.proofs.Common.{◌≡◌, ◌==◌, ◌+◌, ◌<◌, ◌≤◌, ◌++◌, ℕ, suc, List, [], ◌∷◌, length, map, Bool, true, false, cond, Option, Some, None, refl, ap, ◌∙◌, subst, arith, nat_lt}
 use Rattle.std.specs.Prelude.{option_map}
 use Rattle.std.specs.List.{AllByRecursion}
 use Rattle.std.proofs.lemmas.Bool.{lt-ltb, ltb-true}
@@ -14,7 +14,7 @@ use Rattle.il_code.specs.Code.{instr_of, placed, placed_operand, TargetsBelow}
 use Rattle.cil_base.specs.Steps.{◌>>=◌}
 use Rattle.il_code.specs.Spelling.{placed_kind, placed_handler, FilterBelow, BoundedHandler}
 use Rattle.il_code.specs.Numbering.{number_in, target_in, each, numbered_operand, numbered_instr, numbered_kind, numbered_handler}
-use Rattle.il_code.specs.inner.Places.{Rising, instr_place}
+use Rattle.il_code.specs.CodePlaces.{Rising, instr_place}
 use Rattle.il_code.proofs.CodeLemmas.{came, mapped, same_some}
 use Rattle.il_code.proofs.NumberingLemmas.{number_in-is}
 
@@ -71,14 +71,6 @@ each-found f g P one (x ∷ xs) ys h =
     let here = one x y.by y.first in
     let there = each-found f g P one xs rest.by rest.first in
     subst (λ z. AllByRecursion P z × (map g z ≡ x ∷ xs)) rest.is ((here.0, there.0), ap (λ z. z ∷ map g rest.by) here.1 ∙ ap (λ z. x ∷ z) there.1)
-
-pub each-length : {A : Type 0} (f : A → Option A) (xs ys : List A) → each f xs ≡ Some ys → length ys ≡ length xs
-unfolding each
-each-length f [] ys h = ap length (sym (same_some [] ys h))
-each-length f (x ∷ xs) ys h =
-    let y = came (f x) (λ y. option_map (λ ys. y ∷ ys) (each f xs)) ys h in
-    let rest = mapped (λ ys. y.by ∷ ys) (each f xs) ys y.after in
-    ap length (sym rest.is) ∙ ap suc (each-length f xs rest.by rest.first)
 
 pub each-only : {A : Type 0} (f : A → Option A) (g : A → A) (P : A → Type 0) → ((y : A) → P y → f (g y) ≡ Some y) → (ys : List A) → AllByRecursion P ys → each f (map g ys) ≡ Some ys
 unfolding each

@@ -10,7 +10,7 @@ use Rattle.std.proofs.lemmas.Bool.Decides.{nat_tests}
 use Rattle.il_code.specs.declared.instr.Instr.{Instr}
 use Rattle.il_code.specs.Code.{at, size_of}
 use Rattle.il_code.specs.Numbering.{places, number_in, each}
-use Rattle.il_code.specs.inner.Places.{Rising}
+use Rattle.il_code.specs.CodePlaces.{Rising}
 
 -- the number of a place
 

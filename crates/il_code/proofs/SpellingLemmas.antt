@@ -20,7 +20,7 @@ use Rattle.il_code.specs.Code.{at, code_size, size_of, operand_width, width_in, 
 use Rattle.il_code.specs.Sections.{header_at}
 use Rattle.il_code.specs.Spelling.{placed_kind, placed_handler, FilterBelow, BoundedHandler, Handled, Spells}
 use Rattle.il_code.specs.Numbering.{places, each, numbered_instr, numbered_handler, sections_in, handlers_after}
-use Rattle.il_code.specs.inner.Places.{Rising, instr_place}
+use Rattle.il_code.specs.CodePlaces.{Rising, instr_place}
 use Rattle.il_code.proofs.CodeLemmas.{same_some, size_of-pos}
 use Rattle.il_code.proofs.NumberingLaws.{each-found, each-only, instr-found, instr-only, handler-found, handler-only}
 use Rattle.il_code.proofs.SectionLemmas.{sections-found, sections-only, sections-length}

@@ -2,6 +2,7 @@ pub mod Body
 pub mod BodyBytes
 pub mod Code
 pub mod CodeBytes
+pub mod CodePlaces
 pub mod Decoded
 pub mod Edited
 pub mod HeaderBytes

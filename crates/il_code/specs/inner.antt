@@ -1,4 +1,1 @@
-pub mod Numbering
-pub mod Places
-pub mod Ranges
 pub mod Table

@@ -24,6 +24,20 @@ impl Instr {
             operand,
         })
     }
+
+    /// How many bytes it takes: its code and its operand (ECMA-335 III.1.9). A switch of 2^32 targets takes more than
+    /// 2^32 of them.
+    #[tactic(auto, unfolding(crate::specs::Code::size_of, crate::specs::Code::code_size))]
+    pub fn size(&self) -> u128
+        ensures value { result ≡ size_of self.now }
+        ensures bound { result < 2 ^ 67 }
+    {
+        let code: u128 = if self.op < 0x100 { 1 } else { 2 };
+        match operand_kind(self.op) {
+            Some(kind) => code + width(kind, &self.operand),
+            None => code,
+        }
+    }
 }
 
 /// Equal instructions of their own.
@@ -35,19 +49,6 @@ pub(crate) fn copy_code(code: &List<Instr>) -> Result<List<Instr>, NoMemory>
         all.push(instr.copy()?)?;
     }
     Ok(all)
-}
-
-/// How many bytes an instruction takes. A switch of 2^32 targets takes more than 2^32 of them.
-#[tactic(auto, unfolding(crate::specs::Code::size_of, crate::specs::Code::code_size))]
-pub(crate) fn size(instr: &Instr) -> u128
-    ensures value { result ≡ size_of instr.now }
-    ensures bound { result < 2 ^ 67 }
-{
-    let code: u128 = if instr.op < 0x100 { 1 } else { 2 };
-    match operand_kind(instr.op) {
-        Some(kind) => code + width(kind, &instr.operand),
-        None => code,
-    }
 }
 
 /// How many bytes an operand of a kind takes.

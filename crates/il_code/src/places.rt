@@ -1,24 +1,25 @@
 //! Where the instructions of a code stand, by their numbers, and their numbers by the places.
 
-ghost use Rattle.std.specs.Prelude.{◌≡◌, ◌+◌, ◌<◌, ◌≤◌, ◌^◌, ℕ, IfOk, length};
+ghost use Rattle.std.specs.Prelude.{◌≡◌, ◌+◌, ◌<◌, ◌≤◌, ◌^◌, IfOk, length};
 ghost use Rattle.il_code.specs.Numbering.{number_in, places};
-ghost use Rattle.il_code.specs.inner.Places.{CodePlaces, Rising, code_places, instr_place};
+ghost use Rattle.il_code.specs.CodePlaces.{CodePlaces, Rising, code_places};
 
-use crate::instr::{Instr, size};
+use crate::instr::Instr;
 use cil_base::{List, NoMemory};
 use std::alloc::Global;
 use std::marker::Model;
 
-/// Where each instruction of a code stands and where the last one ends, and how many instructions there are.
+/// Where each instruction of a code stands and where the last one ends, in bytes from the code's first, and how many
+/// instructions there are. Each stands after those before it (ECMA-335 III.1.7.2).
 #[derive(Drop)]
-pub(crate) struct Places {
+pub struct Places {
     starts: List<u128>,
     count: usize,
 }
 
 impl Model for Places {
     ghost use Rattle.std.specs.Prelude.{◌≡◌, ◌+◌, ◌<◌, ◌^◌, length};
-    ghost use Rattle.il_code.specs.inner.Places.{CodePlaces, Rising};
+    ghost use Rattle.il_code.specs.CodePlaces.{CodePlaces, Rising};
 
     ghost Value = { CodePlaces };
 
@@ -29,14 +30,14 @@ impl Model for Places {
 
 impl Places {
     /// The places in order: that of each instruction, and the end of the last.
-    pub(crate) fn as_slice(&self) -> &[u128]
+    pub fn as_slice(&self) -> &[u128]
         ensures { result.now ≡ self.now.starts }
     {
         self.starts.as_slice()
     }
 
     /// How many instructions there are.
-    pub(crate) fn count(&self) -> usize
+    pub fn count(&self) -> usize
         ensures value { result ≡ self.now.count }
         ensures small { result < 2 ^ 32 }
     {
@@ -44,8 +45,8 @@ impl Places {
     }
 }
 
-/// The places of the instructions of a code.
-pub(crate) fn places_of(alloc: Global, code: &[Instr]) -> Result<Places, NoMemory>
+/// The places of the instructions of a code. What their targets are does not matter.
+pub fn places_of(alloc: Global, code: &[Instr]) -> Result<Places, NoMemory>
     requires { length code.now < 2 ^ 32 }
     ensures { IfOk result (λ found. found ≡ code_places code.now) }
 {
@@ -65,14 +66,15 @@ fn starts_of(alloc: Global, code: &[Instr]) -> Result<List<u128>, NoMemory>
     let mut place = 0;
     all.push(place)?;
     for instr in code {
-        place += size(instr);
+        place += instr.size();
         all.push(place)?;
     }
     Ok(all)
 }
 
-/// The number of the instruction at a place, or the number of all at the end of the last.
-pub(crate) fn number_of(places: &Places, place: u64) -> Option<u32>
+/// The number of the instruction at a place, or the number of all at the end of the last. None where the place is
+/// inside an instruction or past the end.
+pub fn number_of(places: &Places, place: u64) -> Option<u32>
     ensures { result ≡ number_in places.now.starts place }
 {
     number_among(places.starts.as_slice(), place)
@@ -100,24 +102,4 @@ fn number_among(starts: &[u128], place: u64) -> Option<u32>
         }
     }
     None
-}
-
-/// The place of an instruction. That of a number past the last one is 0.
-pub(crate) fn any_place(places: &[u128], number: usize) -> u128
-    ensures { result ≡ instr_place places.now number }
-{
-    if number < places.len() {
-        places[number]
-    } else {
-        0
-    }
-}
-
-/// The place of an instruction in code of at most 2^24 bytes.
-pub(crate) fn place_at(places: &[u128], number: usize) -> u32
-    requires { (i : ℕ) → instr_place places.now i ≤ 2 ^ 24 }
-    ensures value { result ≡ instr_place places.now number }
-    ensures small { result ≤ 2 ^ 24 }
-{
-    any_place(places, number) as u32
 }

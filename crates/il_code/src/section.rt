@@ -1,11 +1,10 @@
-//! Headers of the sections behind the code (ECMA-335 II.25.4.5): a byte of kind and flags, and the section's size in
-//! one byte, or in three where the section is fat.
+//! The sections behind the code (ECMA-335 II.25.4.5). The header of one is a byte of kind and flags, and the section's
+//! size in one byte, or in three where the section is fat.
 
-ghost use Rattle.std.specs.Prelude.{◌≡◌, ◌+◌, ◌<◌, ◌≤◌, ◌^◌, IfSome, length};
-ghost use Rattle.il_code.specs.Sections.{aligned, clause_size, data_section_at};
+ghost use Rattle.std.specs.Prelude.{◌≡◌};
+ghost use Rattle.il_code.specs.Sections.{clause_size};
 
-use crate::fields::u32_at;
-use crate::format::{FAT_CLAUSE, SECT_EH_TABLE, SECT_FAT_FORMAT, SECT_MORE_SECTS, SMALL_CLAUSE};
+use crate::format::{FAT_CLAUSE, SMALL_CLAUSE};
 
 /// What a section's header says.
 #[derive(Clone, Copy)]
@@ -18,44 +17,9 @@ pub struct Section {
     pub count: u32,
 }
 
-/// The bytes of a clause.
-pub(crate) fn clause_len(fat: bool) -> usize
+/// The bytes of a clause of a fat section or of a small one (ECMA-335 II.25.4.6).
+pub fn clause_len(fat: bool) -> usize
     ensures { result ≡ clause_size fat }
 {
     if fat { FAT_CLAUSE } else { SMALL_CLAUSE }
-}
-
-/// The next multiple of four.
-#[tactic(auto, unfolding(crate::specs::Sections::aligned))]
-pub(crate) fn align(place: usize) -> usize
-    requires { place < 2 ^ 63 + 2 ^ 40 }
-    ensures { result ≡ aligned place }
-{
-    (place + 3) / 4 * 4
-}
-
-/// The section whose header stands at a place.
-#[tactic(auto, unfolding(crate::specs::Sections::data_section_at))]
-pub(crate) fn read_section(bytes: &[u8], place: usize) -> Option<Section>
-    ensures value { result ≡ data_section_at bytes.now place }
-    ensures small { IfSome result (λ section. section.count < 2 ^ 24) }
-    ensures within { IfSome result (λ section. place + 4 ≤ length bytes.now) }
-{
-    let number = u32_at(bytes, place)?;
-    let kind = number % 0x100;
-    let fat = kind / SECT_FAT_FORMAT % 2 == 1;
-    let size = if fat {
-        number / 0x100
-    } else {
-        number / 0x100 % 0x100
-    };
-    if kind % SECT_FAT_FORMAT == SECT_EH_TABLE {
-        Some(Section {
-            fat,
-            further: kind / SECT_MORE_SECTS == 1,
-            count: size / clause_len(fat) as u32,
-        })
-    } else {
-        None
-    }
 }

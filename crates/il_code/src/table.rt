@@ -6,6 +6,7 @@ ghost use Rattle.std.specs.Prelude.{◌≡◌, None as no_row, get_or, map, opti
 ghost use Rattle.il_code.specs.Instructions.{instruction};
 ghost use Rattle.il_code.specs.inner.Table.{row_seen, table_rows};
 
+use crate::format::TWO_BYTES;
 use crate::kind::OperandKind;
 
 /// An instruction.
@@ -15,12 +16,6 @@ pub(crate) struct InstrRow {
     pub name: &'static str,
     pub kind: OperandKind,
 }
-
-/// The first byte of the codes of two bytes.
-pub(crate) const PREFIX: u8 = 0xfe;
-
-/// The first of those codes.
-pub(crate) const TWO_BYTES: u16 = 0xfe00;
 
 /// A row of the table.
 macro_rules! row {

@@ -9,7 +9,7 @@ ghost use Rattle.pe_image.specs.Sections.{bytes_from};
 use crate::columns::{method_impl_flags, method_rva};
 use crate::image::Image;
 use cil_base::{NoMemory, Token};
-use il_code::decode_body;
+use il_read::decode_body;
 use node_model::{BodyValue, Fault, FaultKind, Key, Slot, Value};
 use std::alloc::Global;
 
@@ -18,7 +18,8 @@ const CODE_TYPE_MASK: u32 = 3;
 
 /// The body that the bytes at an RVA spell, or BadBody.
 fn il_slot(alloc: Global, image: &Image, token: Token, rva: u32) -> Result<Slot, NoMemory>
-    ensures { IfOk result (λ slot. slot ≡ body_slot token (body_at (bytes_from image.now rva) (image_streams image.now).users)) }
+    ensures { IfOk result (λ slot.
+        slot ≡ body_slot token (body_at (bytes_from image.now rva) (image_streams image.now).users)) }
 {
     match decode_body(alloc, image.bytes_at(rva), image.streams().users)? {
         Some(body) => Ok(Slot::Value(Value::Body(BodyValue::Il(body)))),

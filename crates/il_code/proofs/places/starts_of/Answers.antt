@@ -1,5 +1,5 @@
 use Rattle.std.proofs.Common.{◌≡◌, ◌+◌, [], ◌∷◌, ◌++◌, length, subst, sym, ap, ◌∙◌, arith}
-use Rattle.il_code.specs.inner.Places.{Rising}
+use Rattle.il_code.specs.CodePlaces.{Rising}
 use Rattle.il_code.proofs.SpellingLemmas.{places-rise, places-length}
 use Rattle.il_code.specs.Code.{at}
 use Rattle.il_code.proofs.NumberingLemmas.{at-none, at-more, places-more, places-is}
