@@ -1,4 +1,5 @@
 pub mod CellLemmas
+pub mod ColumnLemmas
 pub mod HeaderLemmas
 pub mod IndexLemmas
 pub mod LayoutLemmas

@@ -3,6 +3,7 @@
 #![tactic(auto)]
 
 mod cell;
+mod column_places;
 mod header;
 mod laws;
 mod layout;

@@ -110,10 +110,14 @@ fn link_list(
     requires { OpensTables stream.now tables.now }
     ensures { IfOk result (ListsLink stream.now link) }
 {
-    let table = link_column(link).table;
-    let mut rows = Vec::new(alloc);
-    for rid in 1..tables.rows(table) + 1 {
-        let number = tables.link_number(stream, rid, link);
+    let count = tables.rows(link_column(link).table);
+    if count == 0 {
+        return LinkList::from_rows(alloc, Vec::new(alloc));
+    }
+    let places = tables.link_places(stream, link);
+    let mut rows = Vec::with_capacity(alloc, count as usize)?;
+    for rid in 1..count + 1 {
+        let number = places.number(stream, rid);
         rows.push(LinkRow { number, rid })?;
     }
     LinkList::from_rows(alloc, rows)

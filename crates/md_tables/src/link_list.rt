@@ -35,8 +35,8 @@ impl LinkList {
     {
         let mut rows = rows;
         rows.sort_by_key(|row| row.number)?;
-        let mut numbers = Vec::new(alloc);
-        let mut rids = Vec::new(alloc);
+        let mut numbers = Vec::with_capacity(alloc, rows.len())?;
+        let mut rids = Vec::with_capacity(alloc, rows.len())?;
         for row in &rows {
             numbers.push(row.number)?;
             rids.push(row.rid)?;

@@ -3,7 +3,9 @@ ghost use Rattle.md_schema.specs.Link.{link_column_of, link_table_of};
 ghost use Rattle.md_schema.specs.Cell.{IsRowOf, cell_of};
 ghost use Rattle.md_schema.specs.Layout.{OpensTables};
 ghost use Rattle.md_schema.specs.LinkedRows.{is_linked, linked_of};
+ghost use Rattle.md_tables.specs.inner.Columns.{ReadsColumn};
 
+use crate::column_places::ColumnPlaces;
 use crate::tables::Tables;
 use cil_base::{List, NoMemory, Token};
 use md_schema::{Link, link_column, link_kind, names};
@@ -41,13 +43,22 @@ impl Tables {
         names(link_kind(link), self.link_number(stream, rid, link), token)
     }
 
+    /// Returns where the numbers of the link's column stand. Asks for a table that has rows.
+    pub(crate) fn link_places(&self, stream: &[u8], link: Link) -> ColumnPlaces
+        requires opened { OpensTables stream.now self.now }
+        requires row { IsRowOf self.now (link_table_of link) 1 }
+        ensures { ReadsColumn stream.now self.now (link_table_of link) (link_column_of link) result }
+    {
+        let place = link_column(link);
+        self.column_places(stream, place.table, place.column)
+    }
+
     /// Returns the number in the link's column of this row of its table.
-    pub(crate) fn link_number(&self, stream: &[u8], rid: u32, link: Link) -> u32
+    fn link_number(&self, stream: &[u8], rid: u32, link: Link) -> u32
         requires opened { OpensTables stream.now self.now }
         requires row { IsRowOf self.now (link_table_of link) rid }
         ensures { result ≡ cell_of stream.now (link_table_of link) rid (link_column_of link) }
     {
-        let place = link_column(link);
-        self.cell(stream, place.table, rid, place.column)
+        self.link_places(stream, link).number(stream, rid)
     }
 }

@@ -1,5 +1,5 @@
 -- What the steps of opening a stream keep, for their own contracts: ECMA-335 II.24.2.6.
-use Rattle.std.specs.Prelude.{ℕ, ◌≡◌, ◌<◌, ◌≤◌, ◌+◌, ◌*◌, ◌^◌, ◌⊎◌, true, List, map, length, slice_index}
+use Rattle.std.specs.Prelude.{ℕ, ◌≡◌, ◌<◌, ◌≤◌, ◌+◌, ◌*◌, ◌^◌, true, List, map, length, slice_index}
 use Rattle.std.specs.List.{range_with_len}
 use Rattle.md_schema.specs.Header.{count_of, is_present, present_below}
 use Rattle.md_schema.specs.Layout.{Head, first_place, table_row_width}
@@ -22,7 +22,3 @@ pub record IsCounted (stream counts : List ℕ) (number : ℕ) : Type 0 where
 pub record IsLaidOut (head : Head) (places bytes : List ℕ) : Type 0 where
   pub starts : (table : ℕ) → table < 64 → slice_index places table ≡ first_place head table
   pub widths : (table : ℕ) → table < 64 → slice_index bytes table ≡ table_row_width head.counts table
-
--- the bytes of a column
-abbrev pub IsWidth : ℕ → Type 0
-IsWidth width = (width ≡ 2) ⊎ (width ≡ 4)

@@ -5,6 +5,6 @@ use Rattle.md_tables.proofs.link_index.link_list.Given as goal
 
 abbrev pub invariant-loop-rid : goal.invariant-loop-rid
 invariant-loop-rid l = record {
-  rows : l.rows.items ≡ map (link_row l.stream l.link) (range_with_len 1 (l.rid - 1));
+  rows : l.rows.items ≡ map (link_row l.stream l.fn.link) (range_with_len 1 (l.rid - 1));
   first : 1 ≤ l.rid;
 }

@@ -1,6 +1,6 @@
 use Rattle.std.proofs.Common.{sym, ◌∙◌}
 use Rattle.md_tables.proofs.CellLemmas.{offset-take}
-use Rattle.md_tables.proofs.cell.offset.Goals as goal
+use Rattle.md_tables.proofs.column_places.offset.Goals as goal
 
 pub returns-clause-offset : goal.returns-clause-offset
 returns-clause-offset c =
