@@ -1,17 +1,14 @@
-ghost use Rattle.std.specs.Prelude.{◌≡◌, ◌≢◌, IfOk, IfSome, List, MatchResult, None, Option};
+ghost use Rattle.std.specs.Prelude.{◌≡◌, ◌≢◌, ◌↔◌, [], IfOk, IfSome, List, MatchResult, None, Option};
 ghost use Rattle.std.specs.IoError.{error_kind};
 ghost use Rattle.cecil.specs.Reads.{IsAll, IsRead};
 
 use cil_base::{List, NoMemory};
 use cil_outside::{Folder, Got};
 use std::alloc::Global;
-use std::fs;
+use std::fs::{self, OpenFile};
 use std::io::{self, ErrorKind, Read};
 use std::rt::Files;
 use thiserror::Error;
-
-/// The bytes that are asked for at once.
-const CHUNK: usize = 0x1_0000;
 
 /// The files of the current folder. It tells nothing of what they hold.
 #[derive(Drop)]
@@ -38,22 +35,41 @@ impl<'a, R: Files> CurrentFolder<'a, R> {
     }
 }
 
-/// All bytes that a reader has left, if they are at most `max`, else TooLong. A read that gives nothing is the end.
-fn read_whole<F: Read>(alloc: Global, file: &mut F, max: u64) -> Result<Got, ReadError>
-    ensures within { IfOk result (λ got. IsRead max got) }
-    ensures all { IfOk result (λ got. IfSome (F.remaining file.old) (λ left. IsAll left max got)) }
+/// No bytes yet, with room for so many.
+fn with_room(alloc: Global, room: usize) -> Result<Vec<u8>, NoMemory>
+    ensures { IfOk result (λ bytes. bytes.items ≡ []) }
 {
-    let mut bytes = List::new(alloc);
-    let mut chunk = [0; CHUNK];
-    'reading: loop {
-        let count = file.read(&mut chunk)?;
-        if count == 0 {
-            return Ok(Got::Found(bytes));
-        }
-        if max < (bytes.len() + count) as u64 {
-            return Ok(Got::TooLong);
-        }
-        bytes.extend(&chunk[..count])?;
+    Ok(Vec::with_capacity(alloc, room)?)
+}
+
+/// Why bytes were not read. std tells its own want of memory as an error.
+fn not_read(error: io::Error) -> ReadError
+    ensures { (result ≡ ReadError.Failed error) ↔ (error_kind error ≢ ErrorKind.OutOfMemory) }
+{
+    if error.kind() == ErrorKind::OutOfMemory {
+        ReadError::Memory(NoMemory)
+    } else {
+        ReadError::Failed(error)
+    }
+}
+
+/// All bytes that a reader has left, if they are at most `max`, else TooLong. `room` is how many are thought to be there:
+/// memory for them is taken at once, and they are read straight into it. There may be more or fewer.
+fn read_whole<F: Read + Drop>(
+    alloc: Global,
+    file: F,
+    max: u64,
+    room: usize,
+) -> Result<Got, ReadError>
+    ensures within { IfOk result (λ got. IsRead max got) }
+    ensures all { IfOk result (λ got. IfSome (F.remaining file) (λ left. IsAll left max got)) }
+{
+    let mut bytes = with_room(alloc, room)?;
+    let mut front = file.take(max.saturating_add(1));
+    match front.read_to_end(&mut bytes) {
+        Err(error) => Err(not_read(error)),
+        Ok(_) if max < bytes.len() as u64 => Ok(Got::TooLong),
+        Ok(_) => Ok(Got::Found(List::from_vec(bytes))),
     }
 }
 
@@ -74,7 +90,11 @@ fn read_file<R: Files>(alloc: Global, files: &R, name: &str, max: u64) -> Result
     ensures { IfOk result (λ got. IsRead max got) }
 {
     match fs::open(files, name) {
-        Ok(mut file) => read_whole(alloc, &mut file, max),
+        Ok(file) => {
+            // One byte more, so that the end is seen without more room.
+            let room = file.metadata()?.len().min(max).saturating_add(1);
+            read_whole(alloc, file, max, room as usize)
+        }
         Err(error) => not_opened(error),
     }
 }
