@@ -10,6 +10,7 @@ pub mod ReplyLemmas
 pub mod RunLemmas
 pub mod SendLemmas
 pub mod SlotLemmas
+pub mod TurnLemmas
 pub mod ValueLemmas
 pub mod WantedLemmas
 pub mod WantsLemmas

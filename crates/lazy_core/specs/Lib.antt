@@ -3,6 +3,7 @@ pub mod Legal
 pub mod Laws
 pub mod Slots
 pub mod Steps
+pub mod Turns
 pub mod Wants
 pub mod Run
 pub mod RunLaws

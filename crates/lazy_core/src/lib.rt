@@ -8,6 +8,7 @@ mod run;
 mod slot_reply;
 mod slots;
 mod step;
+mod turn;
 mod wanted;
 mod wants;
 
@@ -19,4 +20,5 @@ pub use laws::{
 pub use lazy::Core;
 pub use run::run_steps;
 pub use step::{Step, StepAnswer};
+pub use turn::fill_next;
 pub use wanted::{Peek, Published, Wanted};
