@@ -1,5 +1,5 @@
 -- The definitions at worked values.
-use Rattle.std.proofs.Common.{◌≡◌, refl, ◌∷◌, ◌++◌, [], false, codes}
+use Rattle.std.proofs.Common.{◌≡◌, refl, ◌∷◌, ◌++◌, [], false, true, codes}
 use Rattle.std.specs.Fmt.{digits}
 use Rattle.il_code.specs.Instructions.{instr_name}
 use Rattle.il_code.specs.declared.handler.HandlerKind.TheVariants.{Typed}
@@ -117,3 +117,24 @@ pub facts_of_a_library : reply_text (replies.Facts (record {
     ++ codes " runtime=2.5 flags=1 native=0 entry=00000000 version=\"v4.0.30319\""
 unfolding reply_text hex_number digits
 facts_of_a_library = refl
+
+-- addresses of 64 bits: PE32+
+pub facts_of_a_wide_library : reply_text (replies.Facts (record {
+  plus = true;
+  machine = 0x8664;
+  time = 0;
+  characteristics = 0x2022;
+  base = 0x180000000;
+  subsystem = 3;
+  dll = 0x8540;
+  runtime_major = 2;
+  runtime_minor = 5;
+  flags = 1;
+  native = false;
+  entry = record { table = 0; rid = 0 };
+  version = codes "v4.0.30319";
+}))
+    ≡ codes "facts pe32+ machine=8664 time=0 characteristics=2022 base=0000000180000000 subsystem=3 dll=8540"
+    ++ codes " runtime=2.5 flags=1 native=0 entry=00000000 version=\"v4.0.30319\""
+unfolding reply_text hex_number digits
+facts_of_a_wide_library = refl

@@ -14,8 +14,8 @@ use cil_base::NoMemory;
 use node_model::{Key, Slot, Value};
 use std::alloc::Global;
 
-/// What a key of the image holds in the file: its value, or its one fault. Asks for a key of the image: of a row that it
-/// has, and of a kind that the row's table has (ECMA-335 II.22 to II.25).
+/// What a key of the image holds in the file: its value, or its one fault. Asks for a key of the image: of a row that
+/// it has, and of a kind that the row's table has (ECMA-335 II.22 to II.25).
 pub fn read_key(alloc: Global, image: &Image, key: &Key) -> Result<Slot, NoMemory>
     requires { is_key image.now key.now ≡ true }
     ensures { IfOk result (λ slot. slot ≡ read image.now key.now) }
