@@ -12,7 +12,7 @@ use Rattle.il_code.specs.declared.il_refusal.IlRefusal.TheVariants.{PlaceBeyond}
 use Rattle.il_code.specs.declared.operand.Operand.TheVariants as of
 use Rattle.il_code.specs.Body.{Body}
 use Rattle.il_code.specs.Code.{instr_of, placed}
-use Rattle.il_code.specs.Edited.{body_of_parts, first_failing, lowered, raised}
+use Rattle.il_code.specs.Edited.{bad_code, bad_handler, body_of_parts, first_failing, lowered, raised}
 use Rattle.il_code.specs.Edited.{with_instr, without_instr, with_instr_for, with_handler, without_handler}
 use Rattle.il_code.specs.Edited.{insert_refusal, remove_refusal, replace_refusal, add_handler_refusal, remove_handler_refusal}
 use Rattle.il_code.specs.Sound.{is_sound_handler, is_sound_instr}
@@ -345,3 +345,12 @@ remove_handler-by at v xs hs fr bk n bad badh res exs ehs en efr ebk kc kh h r =
     ∙ ap (λ z. bad_of (length v.code) v.code (z ++ bk)) efr ∙ ap (λ z. bad_of (length v.code) v.code (take at hs ++ z)) ebk
     ∙ ap (λ z. bad_of (length v.code) v.code (take at z ++ drop (at + 1) z)) ehs
     ∙ sym (remove_handler-is at v (omega (arith, h, ap length ehs)))
+
+-- a body as it stands
+pub body-by : (v : Body) (xs : List Instr) (hs : List Handler) (n : ℕ) (bad badh : Option ℕ) (res : Option IlRefusal) → xs ≡ v.code → hs ≡ v.handlers → n ≡ length v.code
+    → bad ≡ failing_from (is_sound_instr n) 0 (all_code xs) → badh ≡ failing_from (is_sound_handler n) 0 (all_handlers hs)
+    → res ≡ refusal_told bad badh → res ≡ option_or (bad_code v) (bad_handler v)
+body-by v xs hs n bad badh res exs ehs en kc kh r =
+    told-by res bad badh _ _ kc kh r
+    ∙ ap (λ z. bad_of n z (all_handlers hs)) (code-stays xs ∙ exs) ∙ ap (λ z. bad_of n v.code z) (handlers-stay hs ∙ ehs)
+    ∙ ap (λ z. bad_of z v.code v.handlers) en ∙ sym (found-bad v.code v.handlers)

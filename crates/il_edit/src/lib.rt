@@ -17,3 +17,4 @@ pub use fail::IlFail;
 pub use handlers::{add_handler, remove_handler};
 pub use il_code::IlRefusal;
 pub use laws::inserted_and_removed;
+pub use refused::body_refused;

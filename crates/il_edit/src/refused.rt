@@ -2,7 +2,9 @@
 
 ghost use Rattle.std.specs.Prelude.{◌≡◌, ◌+◌, ◌++◌, ◌∷◌, [], ◌<◌, ◌≤◌, ◌^◌, drop, length, map, take};
 ghost use Rattle.il_code.specs.Code.{placed};
-ghost use Rattle.il_code.specs.Edited.{add_handler_refusal, insert_refusal, remove_handler_refusal};
+ghost use Rattle.std.specs.Option.{option_or};
+ghost use Rattle.il_code.specs.Edited.{add_handler_refusal, bad_code, bad_handler, insert_refusal};
+ghost use Rattle.il_code.specs.Edited.{remove_handler_refusal};
 ghost use Rattle.il_code.specs.Edited.{remove_refusal, replace_refusal};
 ghost use Rattle.il_code.specs.Sound.{is_sound_handler, is_sound_instr};
 ghost use Rattle.il_edit.specs.inner.Failing.{failing_from, refusal_told};
@@ -26,6 +28,20 @@ fn refusal(code: Option<u32>, handler: Option<u32>) -> Option<IlRefusal>
             None => None,
         },
     }
+}
+
+/// Why a body is not sound as it stands: its first instruction with a target that is no instruction or an operand not
+/// of its code's kind, else its first handler with an end before its start, a bound past the end, or a filter that
+/// begins at no instruction. `None` exactly where it is sound (ECMA-335 II.25.4.6, III.1.7.2).
+pub fn body_refused(body: &Body) -> Option<IlRefusal>
+    ensures { result ≡ option_or (bad_code body.now) (bad_handler body.now) }
+{
+    let count = body.code.len();
+    let code = body.code.as_slice();
+    let handlers = body.handlers.as_slice();
+    let bad = first_bad(Shift::Stay, count, 0, code);
+    let bad_handler = first_bad_handler(Shift::Stay, count, 0, handlers);
+    refusal(bad, bad_handler)
 }
 
 /// The number of the first bad instruction, where one stands between two parts.

@@ -1,5 +1,5 @@
 -- How slots are kept: a number for each place of the shape, in a vector for each table, and the values that the numbers
--- count. No public contract cites these words.
+-- count. Contracts cite these words through `kept_slot` alone.
 use Rattle.std.specs.Prelude.{◌≡◌, ℕ, zero, suc, ◌+◌, ◌-◌, ◌*◌, ◌^◌, ◌<◌, ◌≤◌, List, [], ◌∷◌, ◌++◌, Option, None, Some}
 use Rattle.std.specs.Prelude.{if◌then◌else◌, length, get_or, replicate, slice_get, slice_index}
 use Rattle.slot_store.specs.Shape.{is_in_shape}
