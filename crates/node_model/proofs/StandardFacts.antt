@@ -1,17 +1,27 @@
 -- Values worked out by hand from the standard (ECMA-335 II.22), so that a wrong table, column or size in a definition does not check.
-use Rattle.std.specs.Prelude.{◌≡◌, refl, ℕ, List, [], ◌∷◌, map, codes, Some, None}
+use Rattle.std.specs.Prelude.{◌≡◌, refl, ℕ, List, [], ◌∷◌, map, length, codes, Option, Some, None}
 use Rattle.std.specs.List.{filter, list_any, range_with_len}
 use Rattle.md_schema.specs.Link.{all_links}
 use Rattle.md_schema.specs.Schema.{tables}
 use Rattle.md_schema.specs.declared.link.Link.TheVariants.{InterfaceImpl, Constant, CustomAttribute, FieldMarshal, DeclSecurity, ClassLayout, FieldLayout, EventMap, PropertyMap, MethodSemantics, MethodImpl, ImplMap, FieldRVA, NestedClass, Nested, GenericParam, GenericParamConstraint}
+use Rattle.slot_store.specs.declared.place.Place.{Place}
 use Rattle.node_model.specs.Data.{prim_size}
 use Rattle.node_model.specs.KeyKinds.{has_sig, is_root_table, may_link, owns_table}
+use Rattle.node_model.specs.Places.{key_place, kinds_of, root_kinds}
 use Rattle.node_model.specs.Resources.{counted_bytes}
 use Rattle.node_model.specs.Streams.{column_named}
+use Rattle.node_model.specs.declared.key.Key.TheVariants.{Row, Sig, Owned, Linked, Facts}
 use Rattle.cil_base.specs.Place.{number_at, number_within}
+use Rattle.cil_base.specs.Token.{Token, root}
 
 abbrev numbers : List ℕ
 numbers = range_with_len 0 64
+
+abbrev type_5 : Token
+type_5 = record { table = 0x02; rid = 5 }
+
+abbrev place : ℕ → ℕ → ℕ → Option Place
+place table rid kind = Some (record { table = table; rid = rid; kind = kind })
 
 pub sigs-of_seven : filter has_sig numbers ≡ 0x04 ∷ 0x06 ∷ 0x0a ∷ 0x11 ∷ 0x17 ∷ 0x1b ∷ 0x2b ∷ []
 unfolding has_sig tables
@@ -82,3 +92,14 @@ bytes-counted = refl
 pub bytes-passed : counted_bytes (0xff ∷ 0xff ∷ 0xff ∷ 0xff ∷ 0x61 ∷ 0x62 ∷ []) ≡ None
 unfolding number_within number_at
 bytes-passed = refl
+
+-- the kinds of keys of a type, of a method, and of a TypeSpec
+pub kinds-counted : map (λ t. length (kinds_of t)) (0x02 ∷ 0x06 ∷ 0x1b ∷ []) ≡ 13 ∷ 8 ∷ 3 ∷ []
+unfolding kinds_of has_sig owns_table may_link tables
+kinds-counted = refl
+
+-- a type's row, its methods, the types that are nested in it, and no signature; the facts, and the root's types
+pub places-of_types : map key_place (Row type_5 ∷ Owned type_5 0x06 ∷ Linked type_5 Nested ∷ Sig type_5 ∷ Facts ∷ Owned root 0x02 ∷ [])
+    ≡ place 0x02 5 0 ∷ place 0x02 5 2 ∷ place 0x02 5 11 ∷ None ∷ place 63 1 0 ∷ place 63 1 3 ∷ []
+unfolding key_place kinds_of root_kinds is_root_table has_sig owns_table may_link tables
+places-of_types = refl

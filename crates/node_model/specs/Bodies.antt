@@ -16,7 +16,8 @@ abbrev pub body_slot : Token → Option BodyOf → Slot
 body_slot t (Some body) = slots.Value (values.Body (Il body))
 body_slot t None = slots.Fault (record { key = Body t; kind = BadBody; column = 0 })
 
--- none at the RVA 0; native code where the code type in ImplFlags is not IL; else the body that the bytes at the RVA spell
+-- none at the RVA 0; native code where the code type in ImplFlags is not IL; else the body that the bytes at the RVA
+-- spell
 unfoldable pub read_body : ImageStreams → List ℕ → Token → Slot
 read_body s b t =
     let rva = number_of_column s t (codes "RVA") in

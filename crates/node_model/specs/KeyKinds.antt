@@ -50,8 +50,8 @@ may_link t l = option_map_or (λ kind. may_name_of kind t) (link_kind_of l) fals
 abbrev pub is_root_token : Token → Bool
 is_root_token t = (t.table == 0) && (t.rid == 0)
 
--- whether the table of the key's row has keys of its kind. Bodies are those of MethodDef (II.22.26), data those of FieldRVA
--- (II.22.18), and resources those of ManifestResource (II.22.24)
+-- whether the table of the key's row has keys of its kind. Bodies are those of MethodDef (II.22.26), data those of
+-- FieldRVA (II.22.18), and resources those of ManifestResource (II.22.24)
 abbrev pub has_kind : Key → Bool
 has_kind (Row t) = is_some (columns_of t.table)
 has_kind (Sig t) = has_sig t.table

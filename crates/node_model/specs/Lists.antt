@@ -1,5 +1,5 @@
--- What the lists of rows hold: those of the root, the runs that rows own (ECMA-335 II.22, as FieldList of II.22.37), and the rows that
--- links give.
+-- What the lists of rows hold: those of the root, the runs that rows own (ECMA-335 II.22, as FieldList of II.22.37),
+-- and the rows that links give.
 use Rattle.std.specs.Prelude.{ℕ, ◌-◌, List, map, Option, Some, None, if◌then◌else◌}
 use Rattle.std.specs.List.{range_with_len}
 use Rattle.std.specs.Option.{unwrap_or}

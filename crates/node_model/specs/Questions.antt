@@ -1,14 +1,17 @@
 -- What a query looks at, and what it says: once, for the keys that it reaches, its reply, and the key that it needs.
 use Rattle.std.specs.Prelude.{ℕ, Option, Some, None, if◌then◌else◌}
-use Rattle.node_model.specs.Graph.{Nodes, Status, Absent, Removed, Live}
 use Rattle.node_model.specs.KeyKinds.{has_kind}
 use Rattle.node_model.specs.Keys.{token_of_key}
 use Rattle.node_model.specs.Look.{key_status}
-use Rattle.node_model.specs.Walk.{Held, Walk, Asks, Gives}
+use Rattle.node_model.specs.Nodes.{Nodes}
+use Rattle.node_model.specs.Walk.{Content, Walk, Asks, Gives}
 use Rattle.node_model.specs.declared.key.Key.{Key}
 use Rattle.node_model.specs.declared.key.Key.TheVariants as keys
+use Rattle.node_model.specs.declared.nodes.RowStatus.{RowStatus}
+use Rattle.node_model.specs.declared.nodes.RowStatus.TheVariants.{Absent, Removed, Live}
 use Rattle.node_model.specs.declared.query.Query.{Query}
-use Rattle.node_model.specs.declared.query.Query.TheVariants.{Row, Sig, Members, Links, Body, Data, Resource, Facts, Filled}
+use Rattle.node_model.specs.declared.query.Query.TheVariants.{Row, Sig, Members, Links, Body, Data, Resource, Facts}
+use Rattle.node_model.specs.declared.query.Query.TheVariants.{Filled}
 use Rattle.node_model.specs.declared.reply.Reply.{Reply}
 use Rattle.node_model.specs.declared.reply.Reply.TheVariants as replies
 
@@ -25,7 +28,7 @@ query_key Facts = Some keys.Facts
 query_key Filled = None
 
 -- the reply by what the key holds
-abbrev pub value_reply : (k : Key) → Held k → Reply
+abbrev pub value_reply : (k : Key) → Content k → Reply
 value_reply (keys.Row t) row = replies.Row row
 value_reply (keys.Sig t) sig = replies.Sig t sig
 value_reply (keys.Owned t n) tokens = replies.Tokens (keys.Owned t n) tokens
@@ -35,8 +38,9 @@ value_reply (keys.Data t) bytes = replies.Data t bytes
 value_reply (keys.Resource t) value = replies.Resource t value
 value_reply keys.Facts facts = replies.Facts facts
 
--- what is said of a key before it is looked at: that its row is absent or was removed, or that its table has no such part
-abbrev pub status_reply : Status → Key → Option Reply
+-- what is said of a key before it is looked at: that its row is absent or was removed, or that its table has no such
+-- part
+abbrev pub status_reply : RowStatus → Key → Option Reply
 status_reply Absent k = Some (replies.Absent (token_of_key k))
 status_reply Removed k = Some (replies.Removed (token_of_key k))
 status_reply Live k = if has_kind k then None else Some (replies.WrongKind (token_of_key k))

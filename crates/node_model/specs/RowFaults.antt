@@ -1,5 +1,5 @@
--- The fault of a row: the first cell whose entry of a heap does not exist, whose row number passes the rows of its table, or
--- whose tag names no table (ECMA-335 II.22, II.24.2.6). Columns that are no cells take no part in it.
+-- The fault of a row: the first cell whose entry of a heap does not exist, whose row number passes the rows of its
+-- table, or whose tag names no table (ECMA-335 II.22, II.24.2.6). Columns that are no cells take no part in it.
 use Rattle.std.specs.Prelude.{ℕ, List, Option, is_none}
 use Rattle.std.specs.List.{enumerate_from, filter, find}
 use Rattle.std.specs.Option.{option_map}

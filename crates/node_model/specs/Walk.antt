@@ -1,37 +1,34 @@
--- Looking at keys, one after the other, where the next may depend on what the last one held; and then saying something. One walk is
--- read in several ways: what it says, which keys it looked at, and at which key it stops for want of a slot.
+-- Looking at keys, one after the other, where the next may depend on what the last one held; and then saying something.
+-- One walk is read in several ways: what it says, which keys it looked at, and at which key it stops for want of a
+-- slot.
 use Rattle.std.specs.Prelude.{ℕ, List, [], ◌∷◌, Option, Some, Result, Ok, Err}
 use Rattle.cil_base.specs.Token.{Token}
 use Rattle.pe_image.specs.declared.facts.Facts.{Facts as FactsOf}
 use Rattle.sig_tree.specs.declared.tree.SigTree.{SigTree}
 use Rattle.node_model.specs.declared.key.Key.{Key}
 use Rattle.node_model.specs.declared.key.Key.TheVariants.{Row, Sig, Owned, Linked, Body, Data, Resource, Facts}
-use Rattle.node_model.specs.declared.slot.Fault.{Fault}
 use Rattle.node_model.specs.declared.slot.Slot.{Slot}
 use Rattle.node_model.specs.declared.slot.Slot.TheVariants as slots
 use Rattle.node_model.specs.declared.value.BodyValue.{BodyValue}
 use Rattle.node_model.specs.declared.value.ResourceValue.{ResourceValue}
 use Rattle.node_model.specs.declared.value.RowValue.{RowValue}
 use Rattle.node_model.specs.declared.value.Value.TheVariants as values
+use Rattle.node_model.specs.declared.walk.Halt.{Halt}
+use Rattle.node_model.specs.declared.walk.Halt.TheVariants.{Lacks, Faulty}
 
 -- what a key holds where it is not at fault
-abbrev pub Held : Key → Type 0
-Held (Row t) = RowValue
-Held (Sig t) = SigTree
-Held (Owned t n) = List Token
-Held (Linked t l) = List Token
-Held (Body t) = BodyValue
-Held (Data t) = List ℕ
-Held (Resource t) = ResourceValue
-Held Facts = FactsOf
-
--- the key that has no slot, or the fault that one holds
-pub data Halt : Type 0 where
-  Lacks : Key → Halt
-  Faulty : Fault → Halt
+abbrev pub Content : Key → Type 0
+Content (Row t) = RowValue
+Content (Sig t) = SigTree
+Content (Owned t n) = List Token
+Content (Linked t l) = List Token
+Content (Body t) = BodyValue
+Content (Data t) = List ℕ
+Content (Resource t) = ResourceValue
+Content Facts = FactsOf
 
 -- what a slot says of its key; a slot of another kind counts as none
-abbrev pub part : (k : Key) → Option Slot → Result (Held k) Halt
+abbrev pub part : (k : Key) → Option Slot → Result (Content k) Halt
 part (Row t) (Some (slots.Value (values.Row row))) = Ok row
 part (Sig t) (Some (slots.Value (values.Sig sig))) = Ok sig
 part (Owned t n) (Some (slots.Value (values.Tokens tokens))) = Ok tokens
@@ -45,7 +42,7 @@ part k _ = Err (Lacks k)
 
 pub data Walk (R : Type 0) : Type 0 where
   Gives : R → Walk R
-  Asks : (k : Key) → (Held k → Walk R) → Walk R
+  Asks : (k : Key) → (Content k → Walk R) → Walk R
 
 abbrev pub then_said : {A R : Type 0} → Result A Halt → (A → Result R Halt) → Result R Halt
 then_said (Ok a) f = f a

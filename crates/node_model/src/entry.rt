@@ -1,8 +1,10 @@
 ghost use Rattle.std.specs.Prelude.{◌≡◌, IfOk};
 
+use crate::edit::Edit;
+use crate::edit_copy::copy_edits;
 use crate::key::Key;
 use crate::query::Query;
-use cil_base::NoMemory;
+use cil_base::{List, NoMemory};
 use std::alloc::Global;
 
 /// Who asked, and at which step.
@@ -21,6 +23,8 @@ pub struct By {
 pub enum Why {
     /// A query, which looks at the key.
     Query(Query),
+    /// The keys that an edit looks at, in order, up to and with the key.
+    Keys(List<Key>),
 }
 
 /// An entry of a history.
@@ -33,6 +37,11 @@ pub enum Entry {
         why: Why,
         key: Key,
     },
+    /// The graph was edited: by whom, and what was done, one after the other.
+    Edit {
+        by: By,
+        edits: List<Edit>,
+    },
 }
 
 impl Why {
@@ -42,6 +51,7 @@ impl Why {
     {
         match self {
             Why::Query(query) => Ok(Why::Query(query.copy(alloc)?)),
+            Why::Keys(keys) => Ok(Why::Keys(keys.copy()?)),
         }
     }
 }
@@ -62,6 +72,10 @@ impl Entry {
                 point: *point,
                 why: why.copy(alloc)?,
                 key: *key,
+            }),
+            Entry::Edit { by, edits } => Ok(Entry::Edit {
+                by: *by,
+                edits: copy_edits(alloc, edits)?,
             }),
         }
     }

@@ -4,8 +4,8 @@ ghost use Rattle.node_model.specs.Keys.{is_of_root, token_of_key};
 use cil_base::Token;
 use md_schema::Link;
 
-/// What holds a value or a fault. A row has a key of each kind that its table has; the root has lists of the tables whose rows
-/// the image itself lists.
+/// What holds a value or a fault. A row has a key of each kind that its table has; the root has lists of the tables
+/// whose rows the image itself lists.
 #[derive(Clone, Copy, PartialEq, Eq, Hash)]
 pub enum Key {
     /// The cells of a row.

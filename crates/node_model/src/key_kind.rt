@@ -1,6 +1,7 @@
 ghost use Rattle.std.specs.Prelude.{◌≡◌, ◌<◌, IfSome, length};
 ghost use Rattle.std.specs.List.{position};
-ghost use Rattle.node_model.specs.KeyKinds.{has_kind, has_sig, is_root_table, is_sig_kind, may_link, owns_table, sig_column_of};
+ghost use Rattle.node_model.specs.KeyKinds.{has_kind, has_sig, is_root_table, is_sig_kind, may_link, owns_table};
+ghost use Rattle.node_model.specs.KeyKinds.{sig_column_of};
 
 use crate::key::Key;
 use cil_base::Token;
@@ -63,7 +64,8 @@ pub fn may_link(table: u8, link: Link) -> bool
     has_link(table, link)
 }
 
-/// Whether the table of the key's row has keys of its kind. The root has lists of the tables whose rows the image itself lists.
+/// Whether the table of the key's row has keys of its kind. The root has lists of the tables whose rows the image
+/// itself lists.
 pub fn has_kind(key: &Key) -> bool
     ensures { result ≡ has_kind key.now }
 {

@@ -22,7 +22,8 @@ pub enum FaultKind {
     BadResource,
 }
 
-/// A fault of a key. `column` is the number of the column that has it, from 0, where the kind is BadRow or BadRange, and else 0.
+/// A fault of a key. `column` is the number of the column that has it, from 0, where the kind is BadRow or BadRange,
+/// and else 0.
 #[derive(Clone, Copy, PartialEq, Eq)]
 pub struct Fault {
     pub key: Key,

@@ -7,8 +7,8 @@ use pe_image::Facts;
 use sig_tree::Sig;
 use std::alloc::Global;
 
-/// A row, by its token and its cells in the order of the columns. Columns of signatures, of runs of rows, of RVAs and of offsets
-/// are no cells: what they lead to stands in keys of its own.
+/// A row, by its token and its cells in the order of the columns. Columns of signatures, of runs of rows, of RVAs and
+/// of offsets are no cells: what they lead to stands in keys of its own.
 #[derive(Drop)]
 pub struct RowValue {
     pub token: Token,
@@ -55,7 +55,7 @@ pub enum Value {
 }
 
 /// Equal cells of their own.
-fn copy_cells(alloc: Global, cells: &List<Cell>) -> Result<List<Cell>, NoMemory>
+pub fn copy_cells(alloc: Global, cells: &List<Cell>) -> Result<List<Cell>, NoMemory>
     ensures { IfOk result (λ copy. copy ≡ cells.now) }
 {
     let mut all = List::new(alloc);
