@@ -1,0 +1,13 @@
+pub mod ApplyLemmas
+pub mod CellLemmas
+pub mod ColumnLemmas
+pub mod FitLemmas
+pub mod ListLemmas
+pub mod MeetLemmas
+pub mod NameLemmas
+pub mod NeedLemmas
+pub mod NewRowLemmas
+pub mod NextLemmas
+pub mod RefusalLemmas
+pub mod SlotLemmas
+pub mod TypeTokens

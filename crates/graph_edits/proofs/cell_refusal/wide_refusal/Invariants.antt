@@ -1,0 +1,13 @@
+use Rattle.std.proofs.Common.{◌≡◌, length}
+use Rattle.node_model.specs.EditRefusals.{first_made, number_refusal}
+use Rattle.node_model.specs.PlacedCells.{PlacedCell, edit_cells}
+use Rattle.graph_edits.specs.inner.CellsLeft.{cells_left}
+use Rattle.graph_edits.proofs.cell_refusal.wide_refusal.Given as goal
+
+abbrev pub invariant-loop-placed : goal.invariant-loop-placed
+invariant-loop-placed l =
+    first_made (λ (c : PlacedCell). number_refusal c.kind c.cell) (edit_cells l.edit)
+    ≡ first_made (λ (c : PlacedCell). number_refusal c.kind c.cell) (cells_left l.left)
+
+abbrev pub decreases-loop-placed : goal.decreases-loop-placed
+decreases-loop-placed l = length (cells_left l.left)
