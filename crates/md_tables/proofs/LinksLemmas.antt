@@ -4,15 +4,18 @@ use Rattle.std.specs.List.{filter}
 use Rattle.std.proofs.lemmas.List.{append-nil}
 use Rattle.std.proofs.lemmas.List.FromFn.{filter_of_map_range_with_len_more}
 use Rattle.md_schema.specs.Layout.{Head, OpensTables}
-use Rattle.md_schema.specs.LinkedRows.{rows_to}
+use Rattle.md_schema.specs.LinkedRows.{is_linked, rows_to}
 use Rattle.md_schema.specs.Runs.{table_row_count}
 use Rattle.md_schema.specs.Width.{rows_of}
 use Rattle.cil_base.specs.Token.{Token}
-use Rattle.std.specs.Option.{IsSome, option_map}
+use Rattle.std.specs.Option.{IsSome, option_map, option_map_or}
 use Rattle.md_schema.proofs.LinkLemmas.{link_stands}
 use Rattle.md_schema.specs.Column.{ColumnOf}
 use Rattle.md_schema.specs.Entry.{column_of}
-use Rattle.md_schema.specs.Link.{link_column_of, link_table_of}
+use Rattle.md_schema.specs.Cell.{cell_of}
+use Rattle.md_schema.specs.Link.{link_column_of, link_kind_of, link_table_of}
+use Rattle.md_schema.specs.Reference.{is_named}
+use Rattle.md_schema.specs.declared.column.ColumnKind.{ColumnKind}
 use Rattle.md_schema.specs.declared.link.Link.{Link}
 
 pub table_row_count-is : (stream : List ℕ) (head : Head) (table : ℕ) → OpensTables stream head → rows_of head.counts table ≡ table_row_count stream table
@@ -59,3 +62,12 @@ pub link_column-stands : (link : Link) → IsSome (column_of (link_table_of link
 link_column-stands link =
     let stands = link_stands link in
     some_mapped (λ (column : ColumnOf). column.kind) (column_of (link_table_of link) (link_column_of link)) stands.0 stands.1
+
+-- a row is linked to a token exactly where the number in its column decodes to it
+pub linked-test : (stream : List ℕ) (token : Token) (link : Link) (kind : ColumnKind) (rid number : ℕ) → link_kind_of link ≡ Some kind
+    → number ≡ cell_of stream (link_table_of link) rid (link_column_of link)
+    → is_linked stream token link (record { table = link_table_of link; rid = rid }) ≡ is_named kind number token
+unfolding is_linked
+linked-test stream token link kind rid number is read =
+    let cell = cell_of stream (link_table_of link) rid (link_column_of link) in
+    ap (λ (o : Option ColumnKind). option_map_or (λ k. is_named k cell token) o false) is ∙ ap (λ (n : ℕ). is_named kind n token) (sym read)

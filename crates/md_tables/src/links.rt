@@ -1,8 +1,8 @@
 ghost use Rattle.std.specs.Prelude.{◌≡◌, IfOk};
 ghost use Rattle.md_schema.specs.Link.{link_column_of, link_table_of};
-ghost use Rattle.md_schema.specs.Cell.{IsRowOf, cell_of};
+ghost use Rattle.md_schema.specs.Cell.{IsRowOf};
 ghost use Rattle.md_schema.specs.Layout.{OpensTables};
-ghost use Rattle.md_schema.specs.LinkedRows.{is_linked, linked_of};
+ghost use Rattle.md_schema.specs.LinkedRows.{linked_of};
 ghost use Rattle.md_tables.specs.inner.Columns.{ReadsColumn};
 
 use crate::column_places::ColumnPlaces;
@@ -25,22 +25,20 @@ impl Tables {
         ensures { IfOk result (λ rows. rows ≡ linked_of stream.now token link) }
     {
         let table = link_column(link).table;
+        let count = self.rows(table);
         let mut rows = List::new(alloc);
-        for rid in 1..self.rows(table) + 1 {
-            if self.is_linked(stream, rid, link, token) {
+        if count == 0 {
+            return Ok(rows);
+        }
+        let kind = link_kind(link);
+        let places = self.link_places(stream, link);
+        for rid in 1..count + 1 {
+            let number = places.number(stream, rid);
+            if names(kind, number, token) {
                 rows.push(Token { table, rid })?;
             }
         }
         Ok(rows)
-    }
-
-    /// Whether the link's column of this row of its table decodes to exactly the token.
-    fn is_linked(&self, stream: &[u8], rid: u32, link: Link, token: Token) -> bool
-        requires opened { OpensTables stream.now self.now }
-        requires row { IsRowOf self.now (link_table_of link) rid }
-        ensures { result ≡ is_linked stream.now token link (record { table = link_table_of link; rid = rid }) }
-    {
-        names(link_kind(link), self.link_number(stream, rid, link), token)
     }
 
     /// Returns where the numbers of the link's column stand. Asks for a table that has rows.
@@ -51,14 +49,5 @@ impl Tables {
     {
         let place = link_column(link);
         self.column_places(stream, place.table, place.column)
-    }
-
-    /// Returns the number in the link's column of this row of its table.
-    fn link_number(&self, stream: &[u8], rid: u32, link: Link) -> u32
-        requires opened { OpensTables stream.now self.now }
-        requires row { IsRowOf self.now (link_table_of link) rid }
-        ensures { result ≡ cell_of stream.now (link_table_of link) rid (link_column_of link) }
-    {
-        self.link_places(stream, link).number(stream, rid)
     }
 }

@@ -1,3 +1,4 @@
+pub mod Indexed
 pub mod Opened
 pub mod Cells
 pub mod FieldData

@@ -20,7 +20,7 @@ pub struct Image {
     file: Vec<u8>,
     pe: Pe,
     tables: Tables,
-    links: LinkIndex,
+    links: Option<LinkIndex>,
 }
 
 impl Model for Image {
@@ -51,25 +51,42 @@ impl Image {
     pub fn open(alloc: Global, file: Vec<u8>) -> Result<Image, OpenRefusal>
         ensures { OpensImage result file.items }
     {
+        let mut image = Image::open_unindexed(alloc, file)?;
+        match image.index_links(alloc) {
+            Ok(()) => Ok(image),
+            Err(NoMemory) => Err(OpenRefusal::NoMemory),
+        }
+    }
+
+    /// Opens a file as `open` does, without the index of its links: where rows are asked for that belong to a row by a
+    /// link, the link's whole table is gone over. For a caller that asks for none or few.
+    pub fn open_unindexed(alloc: Global, file: Vec<u8>) -> Result<Image, OpenRefusal>
+        ensures { OpensImage result file.items }
+    {
         let pe = match Pe::open(alloc, file.as_slice()) {
             Ok(pe) => pe,
             Err(PeFail::Refused(refusal)) => return Err(OpenRefusal::Pe(refusal)),
             Err(PeFail::NoMemory) => return Err(OpenRefusal::NoMemory),
         };
-        let stream = pe.stream(file.as_slice(), StreamName::Tables);
-        let tables = match Tables::open(stream) {
-            Ok(tables) => tables,
-            Err(refusal) => return Err(OpenRefusal::Tables(refusal)),
-        };
-        match LinkIndex::open(alloc, &tables, stream) {
-            Ok(links) => Ok(Image {
+        match Tables::open(pe.stream(file.as_slice(), StreamName::Tables)) {
+            Ok(tables) => Ok(Image {
                 file,
                 pe,
                 tables,
-                links,
+                links: None,
             }),
-            Err(NoMemory) => Err(OpenRefusal::NoMemory),
+            Err(refusal) => Err(OpenRefusal::Tables(refusal)),
         }
+    }
+
+    /// Makes the index of the links.
+    fn index_links(&mut self, alloc: Global) -> Result<(), NoMemory>
+        ensures { self.new ≡ self.old }
+    {
+        let stream = self.pe.stream(self.file.as_slice(), StreamName::Tables);
+        let links = LinkIndex::open(alloc, &self.tables, stream)?;
+        self.links = Some(links);
+        Ok(())
     }
 
     /// The number of rows of a table, 0 where the image does not have it.
@@ -80,7 +97,7 @@ impl Image {
         self.tables.rows(table)
     }
 
-    /// The streams, with the tables and the index of their links.
+    /// The streams, with the tables and the index of their links, where there is one.
     #[tactic(auto, unfolding(node_model::specs::Streams::image_streams))]
     pub(crate) fn streams(&self) -> Streams<'_>
         ensures { streams_of result ≡ image_streams self.now }

@@ -1,5 +1,5 @@
 ghost use Rattle.std.specs.Prelude.{◌≡◌, IfOk};
-ghost use Rattle.node_model.specs.Signatures.{read_sig, sig_of, sort_fits};
+ghost use Rattle.node_model.specs.Signatures.{read_sig, sig_of};
 ghost use Rattle.node_read.specs.inner.Opened.{IsRowThere, streams_of};
 
 use crate::columns::number_at;
@@ -7,30 +7,10 @@ use crate::streams::Streams;
 use cil_base::{NoMemory, Token};
 use md_heaps::blob_at;
 use md_schema::table;
-use node_model::{Fault, FaultKind, Key, Slot, Value, sig_column};
+use node_model::{Fault, FaultKind, Key, Slot, Value, sig_column, sort_fits};
 use sig_read::parse_sig;
-use sig_tree::{Sig, SigTree};
+use sig_tree::Sig;
 use std::alloc::Global;
-
-/// Whether a table has signatures of this sort (ECMA-335 II.22, the clause of each table).
-fn sort_fits(table: u8, sig: &SigTree) -> bool
-    ensures { result ≡ sort_fits table sig.now }
-{
-    match sig {
-        SigTree::Method(_) => {
-            table == table::METHOD_DEF
-                || table == table::MEMBER_REF
-                || table == table::STAND_ALONE_SIG
-        }
-        SigTree::Field(_) => {
-            table == table::FIELD || table == table::MEMBER_REF || table == table::STAND_ALONE_SIG
-        }
-        SigTree::Locals(_) => table == table::STAND_ALONE_SIG,
-        SigTree::Property { .. } => table == table::PROPERTY,
-        SigTree::Inst(_) => table == table::METHOD_SPEC,
-        SigTree::Plain(_) => table == table::TYPE_SPEC,
-    }
-}
 
 /// The signature of a row. None where there is none that its table may have (ECMA-335 II.23.2).
 #[tactic(auto, using(crate::proofs::ColumnLemmas::sig_there), unfolding(node_model::specs::Signatures::sig_of))]

@@ -1,15 +1,16 @@
 ghost use Rattle.md_schema.specs.Layout.{OpensTables};
-ghost use Rattle.md_tables.specs.LinkIndex.{IndexesLinks};
+ghost use Rattle.node_read.specs.inner.Indexed.{IndexesAny};
 
 use md_tables::{LinkIndex, Tables};
 
-/// The streams of an image, with the tables that were opened from the first of them and the index of their links.
+/// The streams of an image, with the tables that were opened from the first of them and the index of their links, where
+/// one was made.
 #[derive(Clone, Copy)]
 pub(crate) struct Streams<'a> {
     /// The header of `#~`.
     pub head: &'a Tables,
-    /// The index of the links of `#~`.
-    pub links: &'a LinkIndex,
+    /// The index of the links of `#~`, where there is one.
+    pub links: &'a Option<LinkIndex>,
     /// `#~`.
     pub tables: &'a [u8],
     /// `#Strings`.
@@ -21,5 +22,5 @@ pub(crate) struct Streams<'a> {
     /// `#Blob`.
     pub blobs: &'a [u8],
     ghost opened: { OpensTables tables.now head.now },
-    ghost indexed: { IndexesLinks tables.now links.now },
+    ghost indexed: { IndexesAny tables.now links.now },
 }

@@ -1,9 +1,8 @@
 -- What an opened image keeps, and its streams as they are lent. No public contract cites these words.
-use Rattle.std.specs.Prelude.{◌≡◌, ℕ, ◌<◌, ◌≤◌, List, [], ◌∷◌, map, Ok}
+use Rattle.std.specs.Prelude.{◌≡◌, ℕ, ◌<◌, ◌≤◌, List, [], ◌∷◌, map, Option, Ok}
 use Rattle.cil_base.specs.Token.{Token}
 use Rattle.md_schema.specs.Layout.{Head, OpensTables}
 use Rattle.md_schema.specs.Runs.{table_row_count}
-use Rattle.md_tables.specs.LinkIndex.{IndexesLinks}
 use Rattle.md_tables.specs.declared.link_row.LinkRow.{LinkRow}
 use Rattle.node_model.specs.Streams.{ImageStreams}
 use Rattle.pe_image.specs.Layout.{pe_layout}
@@ -11,11 +10,13 @@ use Rattle.pe_image.specs.Streams.{stream}
 use Rattle.pe_image.specs.declared.image.Pe.{Pe}
 use Rattle.pe_image.specs.declared.stream.StreamName.TheVariants.{Tables}
 use Rattle.node_read.specs.declared.streams.Streams.{Streams}
+use Rattle.node_read.specs.inner.Indexed.{IndexesAny}
 
-pub record IsOpened (b : List ℕ) (pe : Pe) (head : Head) (links : List (List LinkRow)) : Type 0 where
+-- what was opened is what the file says, and so is the index where there is one
+pub record IsOpened (b : List ℕ) (pe : Pe) (head : Head) (links : Option (List (List LinkRow))) : Type 0 where
   pub laid : pe_layout b ≡ Ok pe
   pub opened : OpensTables (stream b Tables) head
-  pub indexed : IndexesLinks (stream b Tables) links
+  pub indexed : IndexesAny (stream b Tables) links
 
 abbrev pub streams_of : Streams → ImageStreams
 streams_of s = record {
