@@ -1,23 +1,28 @@
 -- Which answer stands where.
-use Rattle.std.proofs.Common.{◌≡◌, refl, sym, ◌∙◌, ap, ap₂, subst, ℕ, zero, suc, Bool, false, List, [], ◌∷◌, ◌++◌, length, take, drop, map, Option, Some, None, is_some, slice_get, ◌<◌, ◌↔◌, append_assoc, append-nil, arith}
+use Rattle.std.proofs.Common.{◌≡◌, refl, sym, ◌∙◌, ap, ap₂, subst, ℕ, zero, suc, Bool, true, false, List, [], ◌∷◌, ◌++◌, length, take, drop, map, Option, Some, None, is_some, option_map, slice_get, ◌<◌, ◌↔◌, append_assoc, append-nil, arith}
 use Rattle.std.specs.List.{fold}
 use Rattle.std.proofs.lemmas.List.{length-take-le, map-append, take-append-drop}
 use Rattle.std.proofs.lemmas.List.Sums.{fold-append}
 use Rattle.std.proofs.lemmas.Option.{slice_get_within}
+use Rattle.node_model.specs.declared.edit.Edit.{Edit}
 use Rattle.node_model.specs.declared.entry.By.{By}
 use Rattle.node_model.specs.declared.entry.Entry.{Entry}
+use Rattle.node_model.specs.declared.key.Key.{Key}
 use Rattle.node_model.specs.declared.query.Query.{Query}
-use Rattle.lazy_core.specs.Run.{Course, after, answered, publish_answer, run, start, want_of, want_then, wanted_by}
+use Rattle.lazy_core.specs.Run.{Course, after, answered, publish_answer, run, start, want_for, want_of, want_of_try, want_then, wanted_by}
 use Rattle.lazy_core.specs.RunLaws.{EachIsAnswered, SkippedExactly, is_need, is_needed}
-use Rattle.lazy_core.specs.Steps.{peeked}
+use Rattle.lazy_core.specs.Steps.{last_key, peeked, tried}
 use Rattle.lazy_core.specs.declared.step.Step.{Step}
 use Rattle.lazy_core.specs.declared.step.Step.TheVariants as steps
 use Rattle.lazy_core.specs.declared.step.StepAnswer.{StepAnswer}
 use Rattle.lazy_core.specs.declared.step.StepAnswer.TheVariants as answers
 use Rattle.lazy_core.specs.declared.wanted.Peek as peeks
 use Rattle.lazy_core.specs.declared.wanted.Peek.TheVariants.{Ready, Need}
+use Rattle.lazy_core.specs.declared.wanted.Tried.{Tried}
+use Rattle.lazy_core.specs.declared.wanted.Tried.TheVariants as tries
 use Rattle.lazy_core.specs.declared.wanted.Wanted.{Wanted}
 use Rattle.lazy_core.proofs.RunLemmas.{as_many}
+use Rattle.lazy_core.proofs.TryLemmas.{need_has_last}
 
 -- the answers from a course on
 further : List ℕ → Course → List Step → List StepAnswer
@@ -75,12 +80,26 @@ agree_peek : (by : By) (q : Query) (h : List Entry) (p : peeks.Peek) → is_some
 agree_peek by q h (Ready reply) = refl
 agree_peek by q h (Need k) = refl
 
+agree_try : (b : List ℕ) (h : List Entry) (by : By) (e : Edit) → is_some (want_of_try by h (tried b h e)) ≡ is_need (answers.Tried (tried b h e))
+agree_try b h by e = by_answer (tried b h e) refl
+  where
+    made_of : (o : Option Key) (ks : List Key) → is_some o ≡ true
+        → is_some (option_map (want_for by h ks) o) ≡ true
+    made_of (Some k) ks e = refl
+    made_of None ks e = absurd cc
+
+    by_answer : (t : Tried) → tried b h e ≡ t → is_some (want_of_try by h t) ≡ is_need (answers.Tried t)
+    by_answer (tries.Done made) is = refl
+    by_answer (tries.Refused r) is = refl
+    by_answer (tries.Need ks) is = made_of (last_key ks) ks (need_has_last b h e ks is)
+
 agree_publish : (b : List ℕ) (h : List Entry) (o : Option Wanted) → false ≡ is_need (publish_answer b h o)
 agree_publish b h None = refl
 agree_publish b h (Some w) = refl
 
 agree_one : (b : List ℕ) (h : List Entry) (ws : List (Option Wanted)) (x : Step) → is_some (want_then b h x) ≡ is_need (answered b h ws x)
 agree_one b h ws (steps.Peek by q) = agree_peek by q h (peeked b h q)
+agree_one b h ws (steps.TryEdit by e) = agree_try b h by e
 agree_one b h ws (steps.Publish of) = agree_publish b h (wanted_by ws of)
 
 agree_after : (b : List ℕ) (c : Course) (x : Step) → Agrees c → Agrees (after b c x)

@@ -1,24 +1,26 @@
 -- What is said to a query by the one key that it looks at.
-use Rattle.std.proofs.Common.{◌≡◌, refl, sym, ◌∙◌, ap, ℕ, Bool, true, false, List, [], ◌∷◌, cond, find, length}
+use Rattle.std.proofs.Common.{◌≡◌, refl, sym, ◌∙◌, ap, ℕ, Bool, true, false, List, [], ◌∷◌, cond, find}
 use Rattle.std.specs.Prelude.{Option, Some, None, Result, Ok, Err, not, if◌then◌else◌, ◌&&◌, ◌||◌}
-use Rattle.node_model.specs.Graph.{Graph, Absent, Live, untouched}
+use Rattle.std.specs.List.{list_any}
+use Rattle.node_model.specs.Graph.{Graph}
 use Rattle.node_model.specs.KeyKinds.{has_kind}
-use Rattle.node_model.specs.Keys.{image_rows, is_key, is_key_there, is_of_root, is_row, token_of_key}
+use Rattle.node_model.specs.Keys.{image_rows, is_key, is_key_there, is_of_root, is_row, same_token, token_of_key}
 use Rattle.node_model.specs.Look.{key_status}
 use Rattle.node_model.specs.Questions.{early_reply, query_key, query_walk, status_reply}
 use Rattle.node_model.specs.Replies.{reach, reply, reply_by, unless_early}
-use Rattle.node_model.specs.Walk.{Halt, part, then_looked}
+use Rattle.node_model.specs.Walk.{part, then_looked}
 use Rattle.node_model.specs.declared.entry.Entry.{Entry}
 use Rattle.node_model.specs.declared.key.Key.{Key}
+use Rattle.node_model.specs.declared.nodes.RowStatus.TheVariants.{Absent, Removed, Live}
 use Rattle.node_model.specs.declared.query.Query.{Query}
 use Rattle.node_model.specs.declared.reply.Reply.{Reply}
 use Rattle.node_model.specs.declared.reply.Reply.TheVariants as replies
-use Rattle.lazy_core.specs.History.{fills, filled, graph_after}
+use Rattle.node_model.specs.declared.walk.Halt.{Halt}
+use Rattle.lazy_core.specs.History.{fills, filled, graph_after, is_fill_of}
 use Rattle.lazy_core.specs.Steps.{peek_at, peeked}
 use Rattle.lazy_core.specs.declared.wanted.Peek.{Peek}
 use Rattle.lazy_core.specs.declared.wanted.Peek.TheVariants.{Ready, Need}
 use Rattle.lazy_core.specs.inner.Replies.{early_of, key_said, peeked_by, peeked_key, peeked_slot, slot_reply_of}
-use Rattle.lazy_core.proofs.HistoryLemmas.{all_fills, graph_is}
 
 -- the answer by the first key that is not filled
 chosen : Option Key → Peek → Peek
@@ -74,48 +76,57 @@ reply_none : (g : Graph) (fills : ℕ) (q : Query) → query_key q ≡ None → 
 unfolding reply early_reply query_walk
 reply_none g fills q e = rw e refl
 
-pub said_none : (b : List ℕ) (h : List Entry) (q : Query) → query_key q ≡ None → reply (graph_after b h) (fills h) q ≡ replies.Filled (length h)
-said_none b h q e = reply_none (graph_after b h) (fills h) q e ∙ ap replies.Filled (all_fills h)
+pub said_none : (b : List ℕ) (h : List Entry) (q : Query) → query_key q ≡ None → reply (graph_after b h) (fills h) q ≡ replies.Filled (fills h)
+said_none b h q e = reply_none (graph_after b h) (fills h) q e
 
-pub peeked_none : (b : List ℕ) (h : List Entry) (q : Query) → query_key q ≡ None → peeked b h q ≡ Ready (replies.Filled (length h))
+pub peeked_none : (b : List ℕ) (h : List Entry) (q : Query) → query_key q ≡ None → peeked b h q ≡ Ready (replies.Filled (fills h))
 unfolding peeked chosen
 peeked_none b h q e =
     at-chosen b h q (find (λ j. not (filled b h j)) (reach (graph_after b h) q))
     ∙ ap (λ ks. chosen (find (λ j. not (filled b h j)) ks) (Ready (reply (graph_after b h) (fills h) q))) (reach_none (graph_after b h) q e)
     ∙ ap Ready (said_none b h q e)
 
--- before the key is looked at
-by_there : (x y : Bool) → (if x then Live else (if y then Live else Absent)) ≡ (if (x || y) then Live else Absent)
-by_there true y = refl
-by_there false true = refl
-by_there false false = refl
-
-status_is : (b : List ℕ) (k : Key) → key_status (untouched b).nodes k ≡ (if is_key_there (image_rows b) k then Live else Absent)
-status_is b k = by_there (is_of_root k) (is_row (image_rows b) (token_of_key k))
-
-pub early_is : (b : List ℕ) (h : List Entry) (k : Key) → early_of (graph_after b h) k ≡ status_reply (if is_key_there (image_rows b) k then Live else Absent) k
-unfolding early_of
-early_is b h k = ap (λ g. early_of g k) (graph_is b h) ∙ ap (λ s. status_reply s k) (status_is b k)
-
-pub early_absent : (b : List ℕ) (h : List Entry) (k : Key) → is_key_there (image_rows b) k ≡ false → early_of (graph_after b h) k ≡ Some (replies.Absent (token_of_key k))
-early_absent b h k e = early_is b h k ∙ rw e refl
-
-pub early_wrong : (b : List ℕ) (h : List Entry) (k : Key) → is_key_there (image_rows b) k ≡ true → has_kind k ≡ false → early_of (graph_after b h) k ≡ Some (replies.WrongKind (token_of_key k))
-early_wrong b h k e f = early_is b h k ∙ rw (e, f) refl
-
-pub early_none : (b : List ℕ) (h : List Entry) (k : Key) → is_key_there (image_rows b) k ≡ true → has_kind k ≡ true → early_of (graph_after b h) k ≡ None
-early_none b h k e f = early_is b h k ∙ rw (e, f) refl
-
-by_known : (k : Key) (x y : Bool) → has_kind k ≡ y → status_reply (if x then Live else Absent) k ≡ None → (x && y) ≡ true
-by_known k true true f e = refl
-by_known k true false f e =
-    let wrong : status_reply Live k ≡ Some (replies.WrongKind (token_of_key k)) = rw f refl in
+-- a key of which nothing is said before it is looked at is there, and of a kind that its table has
+by_status : (k : Key) (root row gone kind : Bool) → has_kind k ≡ kind
+    → status_reply (if root then Live else (if row then (if gone then Removed else Live) else Absent)) k ≡ None → ((root || row) && kind) ≡ true
+by_status k true row gone true is e = refl
+by_status k false true false true is e = refl
+by_status k true row gone false is e =
+    let wrong : status_reply Live k ≡ Some (replies.WrongKind (token_of_key k)) = rw is refl in
     absurd cc
-by_known k false y f e = absurd cc
+by_status k false true false false is e =
+    let wrong : status_reply Live k ≡ Some (replies.WrongKind (token_of_key k)) = rw is refl in
+    absurd cc
+by_status k false true true kind is e = absurd cc
+by_status k false false gone kind is e = absurd cc
 
-pub known_of : (b : List ℕ) (h : List Entry) (k : Key) → early_of (graph_after b h) k ≡ None → is_key b k ≡ true
-unfolding is_key
-known_of b h k e = by_known k (is_key_there (image_rows b) k) (has_kind k) refl (sym (early_is b h k) ∙ e)
+pub there_of : (g : Graph) (k : Key) → early_of g k ≡ None → (is_key_there g.nodes.rows k && has_kind k) ≡ true
+unfolding early_of
+there_of g k early =
+    by_status k (is_of_root k) (is_row g.nodes.rows (token_of_key k)) (list_any (same_token (token_of_key k)) g.nodes.removed) (has_kind k) refl early
+
+pub live_early : (g : Graph) (k : Key) → Live ≡ key_status g.nodes k → has_kind k ≡ true → early_of g k ≡ None
+unfolding early_of
+live_early g k live kind = ap (λ s. status_reply s k) (sym live) ∙ rw kind refl
+
+-- where it is not filled either, it is one of the image
+by_known : (root row own fill kind : Bool) → ((root || row) && kind) ≡ true → (fill || ((row && not own) && kind)) ≡ false → ((root || own) && kind) ≡ true
+by_known true row own fill true e f = refl
+by_known true row own fill false e f = absurd cc
+by_known false true true fill true e f = refl
+by_known false true false true true e f = absurd cc
+by_known false true false false true e f = absurd cc
+by_known false true own fill false e f = absurd cc
+by_known false false own fill kind e f = absurd cc
+
+pub known_there : (b : List ℕ) (h : List Entry) (k : Key) → (is_key_there (graph_after b h).nodes.rows k && has_kind k) ≡ true → filled b h k ≡ false → is_key b k ≡ true
+unfolding is_key filled
+known_there b h k there free =
+    by_known (is_of_root k) (is_row (graph_after b h).nodes.rows (token_of_key k)) (is_row (image_rows b) (token_of_key k)) (list_any (is_fill_of k) h) (has_kind k)
+    there free
+
+pub known_of : (b : List ℕ) (h : List Entry) (k : Key) → early_of (graph_after b h) k ≡ None → filled b h k ≡ false → is_key b k ≡ true
+known_of b h k early free = known_there b h k (there_of (graph_after b h) k early) free
 
 -- the answers of the key
 pub peeked_early : (b : List ℕ) (h : List Entry) (k : Key) (r : Reply) → early_of (graph_after b h) k ≡ Some r → peeked_key b h k ≡ Ready r
@@ -137,3 +148,26 @@ said_early b h k r e = ap (λ o. reply_by o (slot_reply_of k ((graph_after b h).
 pub said_looked : (b : List ℕ) (h : List Entry) (k : Key) → early_of (graph_after b h) k ≡ None → key_said b h k ≡ slot_reply_of k ((graph_after b h).held k)
 unfolding key_said
 said_looked b h k e = ap (λ o. reply_by o (slot_reply_of k ((graph_after b h).held k))) e
+
+-- over an image to which nothing was done
+by_there : (x y : Bool) → (if x then Live else (if y then Live else Absent)) ≡ (if (x || y) then Live else Absent)
+by_there true y = refl
+by_there false true = refl
+by_there false false = refl
+
+early_is : (b : List ℕ) (k : Key) → early_of (graph_after b []) k ≡ status_reply (if is_key_there (image_rows b) k then Live else Absent) k
+unfolding early_of
+early_is b k = ap (λ s. status_reply s k) (by_there (is_of_root k) (is_row (image_rows b) (token_of_key k)))
+
+pub early_absent : (b : List ℕ) (k : Key) → is_key_there (image_rows b) k ≡ false → early_of (graph_after b []) k ≡ Some (replies.Absent (token_of_key k))
+early_absent b k e = early_is b k ∙ rw e refl
+
+pub early_wrong : (b : List ℕ) (k : Key) → is_key_there (image_rows b) k ≡ true → has_kind k ≡ false → early_of (graph_after b []) k ≡ Some (replies.WrongKind (token_of_key k))
+early_wrong b k e f = early_is b k ∙ rw (e, f) refl
+
+pub early_none : (b : List ℕ) (k : Key) → is_key_there (image_rows b) k ≡ true → has_kind k ≡ true → early_of (graph_after b []) k ≡ None
+early_none b k e f = early_is b k ∙ rw (e, f) refl
+
+pub known_untouched : (b : List ℕ) (k : Key) → early_of (graph_after b []) k ≡ None → is_key b k ≡ true
+unfolding is_key
+known_untouched b k early = there_of (graph_after b []) k early

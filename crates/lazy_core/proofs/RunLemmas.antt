@@ -1,26 +1,31 @@
 -- What was wanted may be published from then on, whatever steps follow; and the steps go on by one.
-use Rattle.std.proofs.Common.{◌≡◌, refl, sym, ◌∙◌, subst, ℕ, zero, suc, ◌+◌, Bool, true, false, List, [], ◌∷◌, ◌++◌, length, take, get_or, Option, Some, None, ◌<◌, arith, if◌then◌else◌}
+use Rattle.std.proofs.Common.{◌≡◌, refl, sym, ◌∙◌, subst, ℕ, zero, suc, ◌+◌, Bool, true, false, List, [], ◌∷◌, ◌++◌, length, take, get_or, Option, Some, None, option_map, ◌<◌, arith, if◌then◌else◌}
 use Rattle.std.specs.List.{fold, list_any}
 use Rattle.std.proofs.lemmas.List.{length-append, take-append-le}
 use Rattle.std.proofs.lemmas.List.Sums.{fold_more}
 use Rattle.node_model.specs.Keys.{same_key}
+use Rattle.node_model.specs.declared.edit.Edit.{Edit}
 use Rattle.node_model.specs.declared.entry.By.{By}
 use Rattle.node_model.specs.declared.entry.Entry.{Entry}
+use Rattle.node_model.specs.declared.entry.Entry.TheVariants as entries
 use Rattle.node_model.specs.declared.entry.Entry.TheVariants.{Fill}
 use Rattle.node_model.specs.declared.entry.Why.{Why}
 use Rattle.node_model.specs.declared.key.Key.{Key}
 use Rattle.node_model.specs.declared.query.Query.{Query}
 use Rattle.lazy_core.specs.History.{filled, graph_after}
 use Rattle.lazy_core.specs.Legal.{WasWanted, reach_why}
-use Rattle.lazy_core.specs.Run.{Course, after, answered, history_then, publish_history, run, start, want_of, want_then, wanted_by}
-use Rattle.lazy_core.specs.Steps.{history_after, peeked}
+use Rattle.lazy_core.specs.Run.{Course, after, answered, history_then, publish_history, run, start, want_for, want_of, want_of_try, want_then, wanted_by}
+use Rattle.lazy_core.specs.Steps.{history_after, history_tried, last_key, peeked, tried}
 use Rattle.lazy_core.specs.Wants.{AllMayPublish, MayPublish}
 use Rattle.lazy_core.specs.declared.step.Step.{Step}
 use Rattle.lazy_core.specs.declared.step.Step.TheVariants as steps
 use Rattle.lazy_core.specs.declared.step.StepAnswer.{StepAnswer}
 use Rattle.lazy_core.specs.declared.wanted.Peek as peeks
 use Rattle.lazy_core.specs.declared.wanted.Peek.TheVariants.{Ready, Need}
+use Rattle.lazy_core.specs.declared.wanted.Tried.{Tried}
+use Rattle.lazy_core.specs.declared.wanted.Tried.TheVariants as tries
 use Rattle.lazy_core.specs.declared.wanted.Wanted.{Wanted}
+use Rattle.lazy_core.proofs.TryWantLemmas.{try_needed}
 use Rattle.lazy_core.proofs.WantedLemmas.{needed}
 
 -- after further entries
@@ -69,9 +74,31 @@ want_may b h by q = by_peek (peeked b h q) refl
     by_peek (Ready reply) e = tt
     by_peek (Need k) e = needed b h q k e
 
+-- after an edit, and what it leaves wanted
+all_tried : (b : List ℕ) (h : List Entry) (by : By) (e : Edit) (t : Tried) (ws : List (Option Wanted)) → AllMayPublish b h ws → AllMayPublish b (history_tried by e h t) ws
+all_tried b h by e (tries.Done made) ws all = all_more b h (entries.Edit by (e ∷ []) ∷ []) ws all
+all_tried b h by e (tries.Refused r) ws all = all
+all_tried b h by e (tries.Need ks) ws all = all
+
+try_may : (b : List ℕ) (h : List Entry) (by : By) (e : Edit) → MayPublish b (history_tried by e h (tried b h e)) (want_of_try by h (tried b h e))
+try_may b h by e = by_answer (tried b h e) refl
+  where
+    by_last : (ks : List Key) → tried b h e ≡ tries.Need ks → (o : Option Key) → last_key ks ≡ o
+        → MayPublish b h (option_map (want_for by h ks) o)
+    by_last ks is None last = tt
+    by_last ks is (Some k) last = try_needed b h e ks k is last
+
+    by_answer : (t : Tried) → tried b h e ≡ t → MayPublish b (history_tried by e h t) (want_of_try by h t)
+    by_answer (tries.Done made) is = tt
+    by_answer (tries.Refused r) is = tt
+    by_answer (tries.Need ks) is = by_last ks is (last_key ks) refl
+
 pub all_step : (b : List ℕ) (c : Course) (x : Step) → AllMayPublish b c.history c.wants → AllMayPublish b (after b c x).history (after b c x).wants
 unfolding after
 all_step b c (steps.Peek by q) all = all_push b c.history c.wants (want_of by q c.history (peeked b c.history q)) all (want_may b c.history by q)
+all_step b c (steps.TryEdit by e) all =
+    all_push b (history_tried by e c.history (tried b c.history e)) c.wants (want_of_try by c.history (tried b c.history e))
+    (all_tried b c.history by e (tried b c.history e) c.wants all) (try_may b c.history by e)
 all_step b c (steps.Publish of) all =
     all_push b (publish_history b c.history (wanted_by c.wants of)) c.wants None
     (all_published b c.history (wanted_by c.wants of) c.wants all) tt

@@ -51,6 +51,9 @@ unfolding slot_reply_of
 facts_said keys.Facts facts e = refl
 facts_said _ facts e = absurd cc
 
+-- of each kind of value
+pub ruleset value_said = (row_said, sig_said, tokens_said, body_said, data_said, resource_said, facts_said)
+
 pub fault_said : (k : Key) (f : Fault) → slot_reply_of k (slots.Fault f) ≡ replies.Fault f
 unfolding slot_reply_of
 fault_said (keys.Row t) f = refl

@@ -10,12 +10,12 @@ use Rattle.node_model.specs.declared.entry.Why.TheVariants as whys
 use Rattle.node_model.specs.declared.key.Key.{Key}
 use Rattle.node_model.specs.declared.query.Query.{Query}
 use Rattle.node_model.specs.declared.reply.Reply.{Reply}
+use Rattle.node_model.specs.inner.KeyEquality.{key_self}
 use Rattle.lazy_core.specs.History.{filled, graph_after}
 use Rattle.lazy_core.specs.Legal.{WasWanted, reach_why}
 use Rattle.lazy_core.specs.Steps.{NeedIsWanted}
 use Rattle.lazy_core.specs.declared.wanted.Peek.TheVariants.{Need}
 use Rattle.lazy_core.specs.inner.Replies.{early_of, peeked_key}
-use Rattle.lazy_core.proofs.KeyLemmas.{same_self}
 use Rattle.lazy_core.proofs.ReplyLemmas.{known_of, peeked_early, peeked_is, peeked_need, peeked_none, peeked_ready, reach_is}
 
 any_of : (x : Bool) → x ≡ true → (x || false) ≡ true
@@ -26,9 +26,9 @@ key_is_wanted : (b : List ℕ) (h : List Entry) (q : Query) (k : Key) → query_
     → WasWanted b h (length h) (whys.Query q) k
 key_is_wanted b h q k is early free = record {
   early = omega arith;
-  known = known_of b h k early;
+  known = known_of b h k early free;
   reached = subst (λ g. list_any (same_key k) (reach_why (graph_after b g) (whys.Query q)) ≡ true) (sym (take-length h))
-      (rw (reach_is (graph_after b h) q k is, early) (any_of (same_key k k) (same_self k)));
+      (rw (reach_is (graph_after b h) q k is, early) (any_of (same_key k k) (key_self k)));
   unfilled = subst (λ g. filled b g k ≡ false) (sym (take-length h)) free;
 }
 

@@ -8,11 +8,15 @@ use Rattle.lazy_core.specs.declared.step.Step.TheVariants as steps
 use Rattle.lazy_core.specs.declared.step.StepAnswer.{StepAnswer}
 use Rattle.lazy_core.specs.declared.step.StepAnswer.TheVariants as answers
 use Rattle.lazy_core.specs.declared.wanted.Peek.TheVariants.{Ready, Need}
+use Rattle.lazy_core.specs.declared.wanted.Tried.TheVariants as tries
 
--- the answer is that a key is needed
+-- the answer is that a key is needed, or keys
 abbrev pub is_need : StepAnswer → Bool
 is_need (answers.Peek (Need key)) = true
 is_need (answers.Peek (Ready reply)) = false
+is_need (answers.Tried (tries.Need keys)) = true
+is_need (answers.Tried (tries.Done made)) = false
+is_need (answers.Tried (tries.Refused r)) = false
 is_need (answers.Published published) = false
 is_need answers.Skipped = false
 

@@ -2,7 +2,7 @@
 
 ghost use Rattle.lazy_core.specs.Laws.{FaultsAreOfTheFile, FillsChangeNothingSeen, UnfilledIsUntouched};
 ghost use Rattle.lazy_core.specs.RunLaws.{EachIsAnswered, EachWantStands, RunsStayLegal, SkippedExactly};
-ghost use Rattle.lazy_core.specs.Steps.{NeedIsWanted};
+ghost use Rattle.lazy_core.specs.Steps.{NeedHasALast, NeedIsWanted, TryNeedIsWanted};
 
 use crate::lazy::Core;
 
@@ -16,7 +16,7 @@ pub fn faults_are_of_the_file()
     ensures { FaultsAreOfTheFile }
 {}
 
-/// A further fill changes what no key shows, and no reply but the number of filled keys.
+/// A further fill changes what no key shows, what no edit answers, and no reply but the number of filled keys.
 pub fn fills_change_nothing_seen()
     ensures { FillsChangeNothingSeen }
 {}
@@ -24,6 +24,13 @@ pub fn fills_change_nothing_seen()
 /// A key that a core needs for a query is wanted at the history as it stands then: what `publish` asks for.
 pub fn need_is_wanted()
     ensures { NeedIsWanted }
+{}
+
+/// The keys that a core needs for an edit have a last, which is wanted for all of them at the history as it stands
+/// then: what `publish` asks for.
+pub fn try_need_is_wanted()
+    ensures last { NeedHasALast }
+    ensures wanted { TryNeedIsWanted }
 {}
 
 /// The answers of `run_steps` stand in the order of the steps: that of each step is what the core answers after the

@@ -1,8 +1,8 @@
 ghost use Rattle.std.specs.Prelude.{◌≡◌, IfOk};
 
-use crate::wanted::{Peek, Published};
+use crate::wanted::{Peek, Published, Tried};
 use cil_base::NoMemory;
-use node_model::{By, Query};
+use node_model::{By, Edit, Query};
 use std::alloc::Global;
 
 /// A step on a core.
@@ -10,7 +10,10 @@ use std::alloc::Global;
 pub enum Step {
     /// A caller asks a query.
     Peek { by: By, query: Query },
+    /// A caller tries an edit.
+    TryEdit { by: By, edit: Edit },
     /// The key that the step of a number, from 0, was told to need is published, with the slot that `read_key` gives.
+    /// Of the keys that an edit needs it is the last.
     Publish { of: u32 },
 }
 
@@ -19,6 +22,8 @@ pub enum Step {
 pub enum StepAnswer {
     /// To `Step::Peek`.
     Peek(Peek),
+    /// To `Step::TryEdit`.
+    Tried(Tried),
     /// To `Step::Publish`.
     Published(Published),
     /// To `Step::Publish`, where the step of that number is no earlier one, or was not told to need a key.
@@ -35,6 +40,10 @@ impl Step {
                 let query = query.copy(alloc)?;
                 Ok(Step::Peek { by: *by, query })
             }
+            Step::TryEdit { by, edit } => {
+                let edit = edit.copy(alloc)?;
+                Ok(Step::TryEdit { by: *by, edit })
+            }
             Step::Publish { of } => Ok(Step::Publish { of: *of }),
         }
     }
@@ -47,6 +56,7 @@ impl StepAnswer {
     {
         match self {
             StepAnswer::Peek(peek) => Ok(StepAnswer::Peek(peek.copy(alloc)?)),
+            StepAnswer::Tried(tried) => Ok(StepAnswer::Tried(tried.copy()?)),
             StepAnswer::Published(published) => Ok(StepAnswer::Published(*published)),
             StepAnswer::Skipped => Ok(StepAnswer::Skipped),
         }

@@ -1,7 +1,7 @@
 ghost use Rattle.std.specs.Prelude.{◌≡◌, IfOk};
 
-use cil_base::NoMemory;
-use node_model::{By, Key, Reply, Why};
+use cil_base::{List, NoMemory, Token};
+use node_model::{By, EditRefusal, Key, Reply, Why};
 use std::alloc::Global;
 
 /// A key that was wanted and not filled: by whom, at how many entries of the history, for what, and which.
@@ -20,6 +20,18 @@ pub enum Peek {
     Ready(Reply),
     /// The first key that it looks at and that is not filled.
     Need(Key),
+}
+
+/// What a core says to an edit.
+#[derive(Drop)]
+pub enum Tried {
+    /// It is done; with the token of the row that it made, if it made one.
+    Done(Option<Token>),
+    /// It is refused, and nothing changed.
+    Refused(EditRefusal),
+    /// The keys that it looks at, in order, up to the first that is not filled, which is the last of them. Nothing
+    /// changed.
+    Need(List<Key>),
 }
 
 /// What a core did with a slot.
@@ -54,6 +66,19 @@ impl Peek {
         match self {
             Peek::Ready(reply) => Ok(Peek::Ready(reply.copy(alloc)?)),
             Peek::Need(key) => Ok(Peek::Need(*key)),
+        }
+    }
+}
+
+impl Tried {
+    /// An equal answer of its own.
+    pub fn copy(&self) -> Result<Tried, NoMemory>
+        ensures { IfOk result (λ copy. copy ≡ self.now) }
+    {
+        match self {
+            Tried::Done(made) => Ok(Tried::Done(*made)),
+            Tried::Refused(refusal) => Ok(Tried::Refused(*refusal)),
+            Tried::Need(keys) => Ok(Tried::Need(keys.copy()?)),
         }
     }
 }

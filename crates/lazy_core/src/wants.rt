@@ -2,7 +2,6 @@ ghost use Rattle.std.specs.Prelude.{◌≡◌, ◌++◌, ◌∷◌, [], OnErr, O
 
 use crate::wanted::Wanted;
 use cil_base::{List, NoMemory};
-use node_model::Why;
 use std::alloc::Global;
 use std::marker::Model;
 
@@ -43,23 +42,6 @@ impl Wants {
         ensures ok { OnOk result (self.new ≡ self.old ++ want ∷ []) }
         ensures err { OnErr result (self.new ≡ self.old) }
     {
-        let Some(wanted) = want else {
-            return self.wants.push(None);
-        };
-        let Wanted {
-            by,
-            point,
-            why,
-            key,
-        } = wanted;
-        // The prover follows a list of wants only in a function that has a `Why` and a `Query` of its own.
-        let Why::Query(query) = why;
-        let why = Why::Query(query);
-        self.wants.push(Some(Wanted {
-            by,
-            point,
-            why,
-            key,
-        }))
+        self.wants.push(want)
     }
 }

@@ -1,5 +1,5 @@
 -- Replies by the one key that a query looks at, as the core finds them. No public contract cites these words.
-use Rattle.std.specs.Prelude.{ℕ, Bool, true, false, List, Option, Some, None, Ok}
+use Rattle.std.specs.Prelude.{ℕ, Bool, true, false, List, Option, Some, None, Result, Ok, Err}
 use Rattle.node_model.specs.Graph.{Graph}
 use Rattle.node_model.specs.Look.{key_status}
 use Rattle.node_model.specs.Questions.{status_reply, value_reply}
@@ -7,11 +7,10 @@ use Rattle.node_model.specs.Replies.{reply_by, reply_said}
 use Rattle.node_model.specs.Walk.{part, then_said}
 use Rattle.node_model.specs.declared.entry.Entry.{Entry}
 use Rattle.node_model.specs.declared.key.Key.{Key}
-use Rattle.node_model.specs.declared.key.Key.TheVariants as keys
 use Rattle.node_model.specs.declared.reply.Reply.{Reply}
 use Rattle.node_model.specs.declared.slot.Slot.{Slot}
-use Rattle.node_model.specs.declared.slot.Slot.TheVariants as slots
-use Rattle.node_model.specs.declared.value.Value.TheVariants as values
+use Rattle.node_model.specs.declared.walk.Halt.{Halt}
+use Rattle.node_model.specs.declared.walk.Halt.TheVariants.{Lacks, Faulty}
 use Rattle.lazy_core.specs.History.{filled, graph_after}
 use Rattle.lazy_core.specs.declared.wanted.Peek.{Peek}
 use Rattle.lazy_core.specs.declared.wanted.Peek.TheVariants.{Ready, Need}
@@ -24,18 +23,15 @@ early_of g k = status_reply (key_status g.nodes k) k
 unfoldable pub slot_reply_of : Key → Slot → Reply
 slot_reply_of k s = reply_said (then_said (part k (Some s)) (λ v. Ok (value_reply k v)))
 
+-- something is said, or there is a fault
+abbrev pub is_whole : {A : Type 0} → Result A Halt → Bool
+is_whole (Ok a) = true
+is_whole (Err (Faulty fault)) = true
+is_whole (Err (Lacks k)) = false
+
 -- the slot is a fault, or a value of the key's kind
 abbrev pub fits_key : Key → Slot → Bool
-fits_key k (slots.Fault fault) = true
-fits_key (keys.Row t) (slots.Value (values.Row row)) = true
-fits_key (keys.Sig t) (slots.Value (values.Sig sig)) = true
-fits_key (keys.Owned t n) (slots.Value (values.Tokens tokens)) = true
-fits_key (keys.Linked t l) (slots.Value (values.Tokens tokens)) = true
-fits_key (keys.Body t) (slots.Value (values.Body body)) = true
-fits_key (keys.Data t) (slots.Value (values.Data bytes)) = true
-fits_key (keys.Resource t) (slots.Value (values.Resource value)) = true
-fits_key keys.Facts (slots.Value (values.Facts facts)) = true
-fits_key _ _ = false
+fits_key k s = is_whole (part k (Some s))
 
 abbrev pub peeked_slot : Graph → Bool → Key → Peek
 peeked_slot g true k = Ready (slot_reply_of k (g.held k))
