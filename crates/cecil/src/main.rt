@@ -20,7 +20,7 @@ fn run(rt: &HostRuntime) -> Status {
         Err(status) => return status,
     };
     let mut folder = CurrentFolder::new(rt);
-    let mut out = StandardOutput::new(rt.stdout());
+    let mut out = StandardOutput::new(rt.stdout(), rt);
     inspect(rt.alloc(), words.as_slice(), &mut folder, &mut out)
 }
 

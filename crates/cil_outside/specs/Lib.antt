@@ -1,5 +1,7 @@
 pub mod Causes
 pub mod Folder
+pub mod HoldGate
+pub mod Laws
 pub mod MemoryOutlet
 pub mod Outlet
 pub mod SoundFolder
