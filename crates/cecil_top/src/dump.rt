@@ -1,21 +1,25 @@
-ghost use Rattle.std.specs.Prelude.{◌≡◌, ◌++◌, [], OnOk};
+ghost use Rattle.std.specs.Prelude.{◌≡◌, ◌++◌, OnOk};
 ghost use Rattle.std.specs.List.{flat_map};
 ghost use Rattle.cecil_top.specs.Lines.{dump, listed, row_line};
 
 use crate::line::{add_line, reply_of};
 use cil_base::{Bytes, NoMemory, Token};
-use lazy_core::Core;
 use md_schema::table;
 use node_model::{Query, Reply};
+use node_read::Image;
 use std::alloc::Global;
 
 /// Adds the lines of rows.
-fn add_rows(alloc: Global, text: &mut Bytes, core: &Core, tokens: &[Token]) -> Result<(), NoMemory>
-    requires { core.now.1 ≡ [] }
-    ensures { OnOk result (text.new ≡ text.old ++ flat_map (row_line core.now.0) tokens.now) }
+fn add_rows(
+    alloc: Global,
+    text: &mut Bytes,
+    image: &Image,
+    tokens: &[Token],
+) -> Result<(), NoMemory>
+    ensures { OnOk result (text.new ≡ text.old ++ flat_map (row_line image.now) tokens.now) }
 {
     for token in tokens {
-        add_line(alloc, text, core, &Query::Row(*token))?;
+        add_line(alloc, text, image, &Query::Row(*token))?;
     }
     Ok(())
 }
@@ -33,15 +37,14 @@ fn listed(said: &Reply) -> &[Token]
 /// Adds the lines of an image: that of the first Module row, and those of all TypeDef rows (ECMA-335 II.22.30,
 /// II.22.37).
 #[tactic(auto, unfolding(crate::specs::Lines::dump))]
-pub(crate) fn add_dump(alloc: Global, text: &mut Bytes, core: &Core) -> Result<(), NoMemory>
-    requires { core.now.1 ≡ [] }
-    ensures { OnOk result (text.new ≡ text.old ++ dump core.now.0) }
+pub(crate) fn add_dump(alloc: Global, text: &mut Bytes, image: &Image) -> Result<(), NoMemory>
+    ensures { OnOk result (text.new ≡ text.old ++ dump image.now) }
 {
     let first = Token {
         table: table::MODULE,
         rid: 1,
     };
-    add_line(alloc, text, core, &Query::Row(first))?;
-    let types = reply_of(alloc, core, &Query::Members(Token::ROOT, table::TYPE_DEF))?;
-    add_rows(alloc, text, core, listed(&types))
+    add_line(alloc, text, image, &Query::Row(first))?;
+    let types = reply_of(alloc, image, &Query::Members(Token::ROOT, table::TYPE_DEF))?;
+    add_rows(alloc, text, image, listed(&types))
 }

@@ -1,20 +1,20 @@
-ghost use Rattle.std.specs.Prelude.{◌≡◌, ◌++◌, [], IfOk, OnOk};
+ghost use Rattle.std.specs.Prelude.{◌≡◌, ◌++◌, IfOk, OnOk};
 ghost use Rattle.dump_text.specs.ReplyText.{reply_text};
 ghost use Rattle.cecil_top.specs.Lines.{file_reply, line, reply_line};
 
 use cil_base::{Bytes, NoMemory};
 use dump_text::add_reply;
-use lazy_core::Core;
+use lazy_core::image_reply;
 use node_model::{Query, Reply};
+use node_read::Image;
 use std::alloc::Global;
 
 /// The reply to a query over an image to which nothing was done.
-pub(crate) fn reply_of(alloc: Global, core: &Core, query: &Query) -> Result<Reply, NoMemory>
-    requires { core.now.1 ≡ [] }
-    ensures { IfOk result (λ said. said ≡ file_reply core.now.0 query.now) }
+#[tactic(auto, unfolding(crate::specs::Lines::file_reply))]
+pub(crate) fn reply_of(alloc: Global, image: &Image, query: &Query) -> Result<Reply, NoMemory>
+    ensures { IfOk result (λ said. said ≡ file_reply image.now query.now) }
 {
-    let said = core.reply(alloc, query)?;
-    Ok(said)
+    image_reply(alloc, image, query)
 }
 
 /// Adds the line of a reply.
@@ -30,12 +30,11 @@ pub(crate) fn add_said(text: &mut Bytes, said: &Reply) -> Result<(), NoMemory>
 pub(crate) fn add_line(
     alloc: Global,
     text: &mut Bytes,
-    core: &Core,
+    image: &Image,
     query: &Query,
 ) -> Result<(), NoMemory>
-    requires { core.now.1 ≡ [] }
-    ensures { OnOk result (text.new ≡ text.old ++ reply_line core.now.0 query.now) }
+    ensures { OnOk result (text.new ≡ text.old ++ reply_line image.now query.now) }
 {
-    let said = reply_of(alloc, core, query)?;
+    let said = reply_of(alloc, image, query)?;
     add_said(text, &said)
 }

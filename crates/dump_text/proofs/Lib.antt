@@ -1,2 +1,3 @@
 mod Enumerated
+pub mod PlainLemmas
 mod StandardFacts

@@ -14,5 +14,9 @@ fault_kind_text kinds.BadBody = codes "BadBody"
 fault_kind_text kinds.BadData = codes "BadData"
 fault_kind_text kinds.BadResource = codes "BadResource"
 
+-- the key of a fault, its kind, and the number of the column
+abbrev pub placed_fault : Fault → List ℕ
+placed_fault f = key_text f.key ++ 0x20 ∷ fault_kind_text f.kind ++ 0x20 ∷ decimal f.column
+
 abbrev pub fault_text : Fault → List ℕ
-fault_text f = codes "fault " ++ key_text f.key ++ 0x20 ∷ fault_kind_text f.kind ++ 0x20 ∷ decimal f.column
+fault_text f = codes "fault " ++ placed_fault f

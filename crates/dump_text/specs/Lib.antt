@@ -5,3 +5,6 @@ pub mod Faults
 pub mod Bodies
 pub mod FactsText
 pub mod ReplyText
+pub mod Outcomes
+pub mod Entries
+pub mod inner

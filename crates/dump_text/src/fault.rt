@@ -1,5 +1,5 @@
 ghost use Rattle.std.specs.Prelude.{◌≡◌, ◌++◌, OnOk};
-ghost use Rattle.dump_text.specs.Faults.{fault_kind_text, fault_text};
+ghost use Rattle.dump_text.specs.Faults.{fault_kind_text, fault_text, placed_fault};
 
 use crate::key::add_key;
 use crate::pieces::add_decimal;
@@ -20,14 +20,21 @@ fn kind_text(kind: FaultKind) -> &'static [u8]
     }
 }
 
-/// Adds a fault: its key, its kind and the number of the column.
-pub(crate) fn add_fault(text: &mut Bytes, fault: &Fault) -> Result<(), NoMemory>
-    ensures { OnOk result (text.new ≡ text.old ++ fault_text fault.now) }
+/// Adds the key of a fault, its kind and the number of the column.
+pub(crate) fn add_placed_fault(text: &mut Bytes, fault: &Fault) -> Result<(), NoMemory>
+    ensures { OnOk result (text.new ≡ text.old ++ placed_fault fault.now) }
 {
-    text.extend(b"fault ")?;
     add_key(text, &fault.key)?;
     text.push(b' ')?;
     text.extend(kind_text(fault.kind))?;
     text.push(b' ')?;
     add_decimal(text, u64::from(fault.column))
+}
+
+/// Adds a fault: a word, its key, its kind and the number of the column.
+pub(crate) fn add_fault(text: &mut Bytes, fault: &Fault) -> Result<(), NoMemory>
+    ensures { OnOk result (text.new ≡ text.old ++ fault_text fault.now) }
+{
+    text.extend(b"fault ")?;
+    add_placed_fault(text, fault)
 }

@@ -3,13 +3,17 @@
 #![tactic(auto)]
 
 mod body;
+mod entry;
 mod facts;
 mod fault;
 mod key;
 mod names;
 mod operand;
+mod outcome;
 mod pieces;
 mod reply;
 mod row;
 
+pub use entry::entry_text;
+pub use outcome::outcome_text;
 pub use reply::{add_reply, reply_text};

@@ -1,9 +1,11 @@
 ghost use Rattle.std.specs.Prelude.{◌≡◌, ◌++◌, ◌<◌, OnOk};
 ghost use Rattle.std.specs.Fmt.{decimal, signed_decimal};
+ghost use Rattle.std.specs.List.{list_all};
 ghost use Rattle.asm_names.specs.Assembly.{hex_text};
 ghost use Rattle.asm_names.specs.Guid.{guid_text};
 ghost use Rattle.cil_base.specs.Escape.{escaped, escaped_byte, lower_hex};
 ghost use Rattle.dump_text.specs.Pieces.{flag_text, quoted};
+ghost use Rattle.dump_text.specs.inner.Plain.{is_plain};
 
 use asm_names::guid_text;
 use cil_base::{Bytes, NoMemory};
@@ -69,10 +71,28 @@ fn add_byte(text: &mut Bytes, byte: u8) -> Result<(), NoMemory>
     }
 }
 
-/// Adds a text, escaped.
+/// Whether a byte stands in quotes as it is.
+fn is_plain(byte: u8) -> bool
+    ensures { result ≡ is_plain byte }
+{
+    !(byte == b'"' || byte == b'\\') && (0x20 <= byte && byte <= 0x7e)
+}
+
+/// Whether all these bytes stand in quotes as they are.
+fn are_plain(bytes: &[u8]) -> bool
+    ensures { result ≡ list_all is_plain bytes.now }
+{
+    bytes.iter().all(|byte| is_plain(*byte))
+}
+
+/// Adds a text, escaped. Most texts stand as they are, and are added at once.
+#[tactic(auto, using(crate::proofs::PlainLemmas::all_plain))]
 fn add_escaped(text: &mut Bytes, bytes: &[u8]) -> Result<(), NoMemory>
     ensures { OnOk result (text.new ≡ text.old ++ escaped bytes.now) }
 {
+    if are_plain(bytes) {
+        return text.extend(bytes);
+    }
     for byte in bytes {
         add_byte(text, *byte)?;
     }

@@ -5,4 +5,4 @@ use Rattle.cecil_top.proofs.dump.add_rows.Given as goal
 
 -- the lines so far
 abbrev pub invariant-loop-token : goal.invariant-loop-token
-invariant-loop-token l = l.text ≡ l.initial.text ++ flat_map (row_line l.core.0) (take l.token-index l.tokens)
+invariant-loop-token l = l.text ≡ l.initial.text ++ flat_map (row_line l.image) (take l.token-index l.tokens)

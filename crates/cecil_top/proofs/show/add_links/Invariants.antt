@@ -5,4 +5,4 @@ use Rattle.cecil_top.proofs.show.add_links.Given as goal
 
 -- the lines so far
 abbrev pub invariant-loop-link : goal.invariant-loop-link
-invariant-loop-link l = l.text ≡ l.initial.text ++ flat_map (linked_line l.core.0 l.token) (take l.link-index l.links)
+invariant-loop-link l = l.text ≡ l.initial.text ++ flat_map (linked_line l.image l.token) (take l.link-index l.links)

@@ -5,4 +5,4 @@ use Rattle.cecil_top.proofs.show.add_members.Given as goal
 
 -- the lines so far
 abbrev pub invariant-loop-table : goal.invariant-loop-table
-invariant-loop-table l = l.text ≡ l.initial.text ++ flat_map (member_line l.core.0 l.token) (take l.table-index l.tables)
+invariant-loop-table l = l.text ≡ l.initial.text ++ flat_map (member_line l.image l.token) (take l.table-index l.tables)
