@@ -1,6 +1,6 @@
 use cil_base::{Bytes, List, NoMemory, Token};
 use dump_text::reply_text;
-use lazy_core::{Core, Peek, Published, Step, StepAnswer, run_steps};
+use lazy_core::{Core, Peek, Published, Step, StepAnswer, Tried, run_steps};
 use node_model::{By, Query};
 use node_read::Image;
 use std::alloc::Global;
@@ -16,12 +16,10 @@ fn asked(caller: u32, query: Query) -> Step {
     Step::Peek { by, query }
 }
 
-/// Adds what two callers ask of the row before either has filled it, and the same again in a copy.
-fn add_wants(alloc: Global, steps: &mut List<Step>, token: Token) -> Result<(), NoMemory> {
-    let query = Query::Row(token);
-    let first = asked(0, query);
-    steps.push(first.copy(alloc)?)?;
-    steps.push(first)?;
+/// Adds that the row is asked for twice before it is filled.
+fn add_wants(steps: &mut List<Step>, token: Token) -> Result<(), NoMemory> {
+    steps.push(asked(0, Query::Row(token)))?;
+    steps.push(asked(0, Query::Row(token)))?;
     Ok(())
 }
 
@@ -37,7 +35,7 @@ fn add_publishes(steps: &mut List<Step>, query: Query) -> Result<(), NoMemory> {
 /// Two callers want a row, both publish it, and it is asked for again, with the number of filled keys.
 fn steps(alloc: Global, token: Token) -> Result<List<Step>, NoMemory> {
     let mut steps = List::new(alloc);
-    add_wants(alloc, &mut steps, token)?;
+    add_wants(&mut steps, token)?;
     add_publishes(&mut steps, Query::Row(token))?;
     steps.push(asked(1, Query::Filled))?;
     Ok(steps)
@@ -48,6 +46,9 @@ fn text(alloc: Global, answer: &StepAnswer) -> Result<Bytes, NoMemory> {
     match answer {
         StepAnswer::Peek(Peek::Ready(reply)) => reply_text(alloc, reply),
         StepAnswer::Peek(Peek::Need(key)) => List::from_slice(alloc, &key.token().hex_digits()),
+        StepAnswer::Tried(Tried::Done(_)) => List::from_slice(alloc, b"done"),
+        StepAnswer::Tried(Tried::Refused(_)) => List::from_slice(alloc, b"refused"),
+        StepAnswer::Tried(Tried::Need(_)) => List::from_slice(alloc, b"need"),
         StepAnswer::Published(Published::Stored) => List::from_slice(alloc, b"stored"),
         StepAnswer::Published(Published::Already) => List::from_slice(alloc, b"already"),
         StepAnswer::Skipped => List::from_slice(alloc, b"skipped"),

@@ -1,0 +1,46 @@
+#!/usr/bin/env python3
+"""Writes the damaged images of the cases of `edit_cases` that are made by hand.
+
+Usage: tools/edit_images.py FOLDER
+
+`badrow.dll` is the small image with a type whose name is no text. `nest.dll` has NestedClass rows of which one has no
+EnclosingClass and two name types that are not there (ECMA-335 II.22.32). The others are those of tools/row_images.py.
+"""
+import sys
+
+import row_images
+from row_images import bodies, field_data, heaps, image_of, resources, signatures
+from small_image import small_image
+
+# where the name of the type stands in the small image
+TYPE_NAME = 0x2E2
+
+row_images.FORMATS[0x29] = "<HH"
+
+
+def bad_row():
+    image = bytearray(small_image())
+    image[TYPE_NAME] = 0xFF
+    return bytes(image)
+
+
+def nestings():
+    strings, blobs, module = heaps("nest.dll")
+    types = [(0, strings.text("N"), 0, 0, 1, 1)] * 4
+    return image_of({0x00: module, 0x02: types, 0x29: [(2, 1), (3, 0), (9, 1), (4, 9), (4, 3)]}, strings, blobs)
+
+
+IMAGES = {"badrow.dll": bad_row, "nest.dll": nestings, "sigs.dll": signatures, "bodies.dll": lambda: bodies()[0],
+          "data.dll": field_data, "res.dll": resources}
+
+
+def main():
+    if len(sys.argv) != 2:
+        sys.exit(__doc__)
+    for name, made in IMAGES.items():
+        with open(f"{sys.argv[1]}/{name}", "wb") as file:
+            file.write(made())
+
+
+if __name__ == "__main__":
+    main()
