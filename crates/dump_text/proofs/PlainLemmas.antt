@@ -4,19 +4,19 @@ use Rattle.std.specs.Prelude.{◌==◌, ◌&&◌, ◌||◌, not, if◌then◌els
 use Rattle.std.specs.List.{list_all}
 use Rattle.std.proofs.lemmas.Bool.{and_parts}
 use Rattle.cil_base.specs.Escape.{escaped, escaped_byte}
-use Rattle.dump_text.specs.inner.Plain.{is_plain}
+use Rattle.dump_text.specs.inner.Plain.{is_unescaped}
 
 by_tests : (x y : Bool) (a b c : List ℕ) → (not x && y) ≡ true → (if x then a else (if y then b else c)) ≡ b
 by_tests true y a b c e = absurd cc
 by_tests false true a b c e = refl
 by_tests false false a b c e = absurd cc
 
-plain-byte : (n : ℕ) → is_plain n ≡ true → escaped_byte n ≡ n ∷ []
+plain-byte : (n : ℕ) → is_unescaped n ≡ true → escaped_byte n ≡ n ∷ []
 plain-byte n e = by_tests ((n == 0x22) || (n == 0x5c)) (nat_le 0x20 n && nat_le n 0x7e) _ (n ∷ []) _ e
 
 -- where all stand as they are, so does the text
-pub all_plain : (bytes : List ℕ) → list_all is_plain bytes ≡ true → escaped bytes ≡ bytes
+pub all_plain : (bytes : List ℕ) → list_all is_unescaped bytes ≡ true → escaped bytes ≡ bytes
 all_plain [] e = refl
 all_plain (n ∷ ns) e =
-    let parts = and_parts (is_plain n) (list_all is_plain ns) e in
+    let parts = and_parts (is_unescaped n) (list_all is_unescaped ns) e in
     ap₂ (λ (front rest : List ℕ). front ++ rest) (plain-byte n parts.0) (all_plain ns parts.1)

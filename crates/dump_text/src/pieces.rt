@@ -5,7 +5,7 @@ ghost use Rattle.asm_names.specs.Assembly.{hex_text};
 ghost use Rattle.asm_names.specs.Guid.{guid_text};
 ghost use Rattle.cil_base.specs.Escape.{escaped, escaped_byte, lower_hex};
 ghost use Rattle.dump_text.specs.Pieces.{flag_text, quoted};
-ghost use Rattle.dump_text.specs.inner.Plain.{is_plain};
+ghost use Rattle.dump_text.specs.inner.Plain.{is_unescaped};
 
 use asm_names::guid_text;
 use cil_base::{Bytes, NoMemory};
@@ -72,17 +72,17 @@ fn add_byte(text: &mut Bytes, byte: u8) -> Result<(), NoMemory>
 }
 
 /// Whether a byte stands in quotes as it is.
-fn is_plain(byte: u8) -> bool
-    ensures { result ≡ is_plain byte }
+fn is_unescaped(byte: u8) -> bool
+    ensures { result ≡ is_unescaped byte }
 {
     !(byte == b'"' || byte == b'\\') && (0x20 <= byte && byte <= 0x7e)
 }
 
 /// Whether all these bytes stand in quotes as they are.
 fn are_plain(bytes: &[u8]) -> bool
-    ensures { result ≡ list_all is_plain bytes.now }
+    ensures { result ≡ list_all is_unescaped bytes.now }
 {
-    bytes.iter().all(|byte| is_plain(*byte))
+    bytes.iter().all(|byte| is_unescaped(*byte))
 }
 
 /// Adds a text, escaped. Most texts stand as they are, and are added at once.

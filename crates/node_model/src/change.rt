@@ -50,10 +50,7 @@ pub struct Change {
 }
 
 /// Equal contents of their own.
-fn copy_contents(
-    alloc: Global,
-    contents: &List<(Key, Slot)>,
-) -> Result<List<(Key, Slot)>, NoMemory>
+fn copy_contents(alloc: Global, contents: &List<(Key, Slot)>) -> Result<List<(Key, Slot)>, NoMemory>
     ensures { IfOk result (λ copy. copy ≡ contents.now) }
 {
     let mut all = List::new(alloc);

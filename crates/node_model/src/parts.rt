@@ -5,10 +5,10 @@ ghost use Rattle.std.specs.Prelude.{◌≡◌, Err, MatchResult, Ok};
 ghost use Rattle.node_model.specs.Parts.{part_at};
 ghost use Rattle.node_model.specs.declared.key.Key.TheVariants as keys;
 
-use crate::walk::Halt;
 use crate::key::Key;
 use crate::slot::Slot;
 use crate::value::{BodyValue, ResourceValue, RowValue, Value};
+use crate::walk::Halt;
 use cil_base::{Bytes, List, Token};
 use md_schema::Link;
 use pe_image::Facts;

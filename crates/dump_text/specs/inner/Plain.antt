@@ -2,5 +2,5 @@
 use Rattle.std.specs.Prelude.{ℕ, Bool, ◌==◌, ◌&&◌, ◌||◌, not, nat_le}
 
 -- from 20 to 7E, and neither `"` nor `\`
-abbrev pub is_plain : ℕ → Bool
-is_plain n = not ((n == 0x22) || (n == 0x5c)) && (nat_le 0x20 n && nat_le n 0x7e)
+abbrev pub is_unescaped : ℕ → Bool
+is_unescaped n = not ((n == 0x22) || (n == 0x5c)) && (nat_le 0x20 n && nat_le n 0x7e)
