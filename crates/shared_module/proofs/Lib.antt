@@ -1,0 +1,4 @@
+pub mod PrefixLemmas
+pub mod AddsLemmas
+pub mod TurnLemmas
+pub mod RoundLemmas
