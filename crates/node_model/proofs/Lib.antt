@@ -1,5 +1,6 @@
 pub mod CodeEditFacts
 pub mod EditFacts
+pub mod QueryFacts
 pub mod EditRefusalFacts
 pub mod KindLemmas
 pub mod PlaceLemmas
@@ -7,6 +8,7 @@ pub mod RowKeyLemmas
 pub mod StandardFacts
 pub mod TableLemmas
 pub mod WalkLemmas
+pub mod SayLemmas
 pub mod RowLemmas
 pub mod AddedLemmas
 pub mod EarlyLemmas
@@ -24,4 +26,7 @@ pub mod LinkCellLemmas
 pub mod EditKinds
 pub mod KnownLists
 pub mod KnownEdits
+pub mod KnownNames
+pub mod KnownQueries
+pub mod QueryLemmas
 pub mod ReachLemmas

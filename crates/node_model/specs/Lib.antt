@@ -23,6 +23,10 @@ pub mod Changes
 pub mod EditWalks
 pub mod Graph
 pub mod Look
+pub mod RowTexts
+pub mod RowNames
+pub mod TypeViews
+pub mod Searches
 pub mod Questions
 pub mod Replies
 pub mod EditAnswers

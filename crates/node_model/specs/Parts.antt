@@ -1,5 +1,5 @@
 -- What the slots in memory say of a key, and how a call that looks at keys follows a walk.
-use Rattle.std.specs.Prelude.{◌≡◌, Option, Some, None, Result, Ok, Err}
+use Rattle.std.specs.Prelude.{◌≡◌, Result, Ok, Err}
 use Rattle.slot_store.specs.SlotMap.{SlotMap}
 use Rattle.node_model.specs.Places.{slot_at}
 use Rattle.node_model.specs.Walk.{Content, part}

@@ -21,7 +21,7 @@ unless_early None keys = keys
 -- the keys that a query looks at, up to the first that holds a fault, that one included; none where it is answered
 -- before
 unfoldable pub reach : Graph → Query → List Key
-reach g q = unless_early (early_reply g.nodes q) (looked (all_slots g) (query_walk 0 q))
+reach g q = unless_early (early_reply g.nodes q) (looked (all_slots g) (query_walk g.nodes 0 q))
 
 -- a reply, or the fault of a key. The last never comes: each key of a graph holds something, and a value of its own
 -- kind
@@ -36,4 +36,4 @@ reply_by None reply = reply
 
 -- the reply to a query, where so many keys were filled
 unfoldable pub reply : Graph → ℕ → Query → Reply
-reply g fills q = reply_by (early_reply g.nodes q) (reply_said (said (all_slots g) (query_walk fills q)))
+reply g fills q = reply_by (early_reply g.nodes q) (reply_said (said (all_slots g) (query_walk g.nodes fills q)))

@@ -61,3 +61,13 @@ then_looked (Err e) f = []
 abbrev pub looked : {R : Type 0} → (Key → Option Slot) → Walk R → List Key
 looked p (Gives r) = []
 looked p (Asks k f) = k ∷ then_looked (part k (p k)) (λ v. looked p (f v))
+
+-- one walk, and then another by what it gave
+abbrev pub then_walk : {A R : Type 0} → Walk A → (A → Walk R) → Walk R
+then_walk (Gives a) f = f a
+then_walk (Asks k g) f = Asks k (λ v. then_walk (g v) f)
+
+-- a walk for each of these, one after the other, with what they gave
+abbrev pub each_walk : {A R : Type 0} → (A → Walk R) → List A → Walk (List R)
+each_walk f [] = Gives []
+each_walk f (x ∷ xs) = then_walk (f x) (λ r. then_walk (each_walk f xs) (λ rs. Gives (r ∷ rs)))

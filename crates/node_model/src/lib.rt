@@ -39,8 +39,8 @@ pub use parts::{
     body_part, data_part, facts_part, linked_part, owned_part, resource_part, row_part, sig_part,
 };
 pub use place::{image_shape, row_keys};
-pub use query::Query;
-pub use reply::Reply;
+pub use query::{OptText, Query};
+pub use reply::{MethodView, Reply, TypeView};
 pub use slot::{Fault, FaultKind, Slot};
 pub use sort::sort_fits;
 pub use stop::Stop;

@@ -2,7 +2,7 @@ ghost use Rattle.std.specs.Prelude.{◌≡◌, IfOk};
 ghost use Rattle.node_model.specs.Questions.{query_key};
 
 use crate::key::Key;
-use cil_base::{NoMemory, Token};
+use cil_base::{Bytes, NoMemory, Token};
 use md_schema::Link;
 use std::alloc::Global;
 
@@ -25,12 +25,37 @@ pub enum Query {
     Resource(Token),
     /// What the headers say of the image as a whole.
     Facts,
+    /// The name of a row: of a type, of an assembly, or of a row with a signature.
+    Name(Token),
+    /// A type with its members.
+    TypeInfo(Token),
+    /// A method with its parameters and its body.
+    Method(Token),
+    /// The first type of the image with this namespace and this name.
+    FindType {
+        namespace: Bytes,
+        name: Bytes,
+    },
+    /// The first field or method of a type with this name, and with this printed signature where one is given.
+    FindMember {
+        of: Token,
+        table: u8,
+        name: Bytes,
+        sig: OptText,
+    },
     /// How many keys were filled.
     Filled,
 }
 
+/// A text, or none.
+#[derive(Drop)]
+pub enum OptText {
+    None,
+    Is(Bytes),
+}
+
 impl Query {
-    /// The one key that the query looks at. None of `Filled`, which looks at none.
+    /// The one key of a query that looks at one alone. None of the others, of which `Filled` looks at no key.
     pub fn key(&self) -> Option<Key>
         ensures { result ≡ query_key self.now }
     {
@@ -43,6 +68,11 @@ impl Query {
             Query::Data(token) => Some(Key::Data(*token)),
             Query::Resource(token) => Some(Key::Resource(*token)),
             Query::Facts => Some(Key::Facts),
+            Query::Name(_) => None,
+            Query::TypeInfo(_) => None,
+            Query::Method(_) => None,
+            Query::FindType { .. } => None,
+            Query::FindMember { .. } => None,
             Query::Filled => None,
         }
     }
@@ -60,7 +90,52 @@ impl Query {
             Query::Data(token) => Ok(Query::Data(*token)),
             Query::Resource(token) => Ok(Query::Resource(*token)),
             Query::Facts => Ok(Query::Facts),
+            Query::Name(token) => Ok(Query::Name(*token)),
+            Query::TypeInfo(token) => Ok(Query::TypeInfo(*token)),
+            Query::Method(token) => Ok(Query::Method(*token)),
+            Query::FindType { namespace, name } => copy_find_type(namespace, name),
+            Query::FindMember {
+                of,
+                table,
+                name,
+                sig,
+            } => copy_find_member(*of, *table, name, sig),
             Query::Filled => Ok(Query::Filled),
         }
     }
+}
+
+impl OptText {
+    /// An equal text of its own, or none.
+    pub fn copy(&self) -> Result<OptText, NoMemory>
+        ensures { IfOk result (λ copy. copy ≡ self.now) }
+    {
+        match self {
+            OptText::None => Ok(OptText::None),
+            OptText::Is(text) => Ok(OptText::Is(text.copy()?)),
+        }
+    }
+}
+
+/// `FindType` with copies of these texts.
+fn copy_find_type(namespace: &Bytes, name: &Bytes) -> Result<Query, NoMemory>
+    ensures { IfOk result (λ copy. copy ≡ Query.FindType namespace.now name.now) }
+{
+    let namespace = namespace.copy()?;
+    let name = name.copy()?;
+    Ok(Query::FindType { namespace, name })
+}
+
+/// `FindMember` with copies of these texts.
+fn copy_find_member(of: Token, table: u8, name: &Bytes, sig: &OptText) -> Result<Query, NoMemory>
+    ensures { IfOk result (λ copy. copy ≡ Query.FindMember of table name.now sig.now) }
+{
+    let name = name.copy()?;
+    let sig = sig.copy()?;
+    Ok(Query::FindMember {
+        of,
+        table,
+        name,
+        sig,
+    })
 }

@@ -65,6 +65,17 @@ pub fn copy_cells(alloc: Global, cells: &List<Cell>) -> Result<List<Cell>, NoMem
     Ok(all)
 }
 
+/// Equal rows of their own.
+pub(crate) fn copy_rows(alloc: Global, rows: &List<RowValue>) -> Result<List<RowValue>, NoMemory>
+    ensures { IfOk result (λ copy. copy ≡ rows.now) }
+{
+    let mut all = List::new(alloc);
+    for row in rows.as_slice() {
+        all.push(row.copy(alloc)?)?;
+    }
+    Ok(all)
+}
+
 impl RowValue {
     /// An equal row of its own.
     pub fn copy(&self, alloc: Global) -> Result<RowValue, NoMemory>
