@@ -1,0 +1,4 @@
+pub mod AnswerLemmas
+mod NameLemmas
+mod MemberLemmas
+mod HaltLemmas

@@ -1,0 +1,13 @@
+use Rattle.std.proofs.Common.{◌≡◌, drop}
+use Rattle.node_model.specs.RowNames.{live_members}
+use Rattle.node_model.specs.TypeViews.{row_walk}
+use Rattle.node_model.specs.Walk.{each_walk, said}
+use Rattle.graph_query.specs.Answered.{nodes_asked, slots_asked}
+use Rattle.graph_query.specs.inner.Halts.{halt_of}
+use Rattle.graph_query.proofs.halts.rows_halt.Given as goal
+
+-- what the rows behind the place end with is what all end with
+abbrev pub invariant-loop-token : goal.invariant-loop-token
+invariant-loop-token l =
+    halt_of (said (slots_asked l.graph) (each_walk row_walk (live_members (nodes_asked l.graph) l.table (drop l.token-index l.tokens))))
+    ≡ halt_of (said (slots_asked l.graph) (each_walk row_walk (live_members (nodes_asked l.graph) l.table l.tokens)))
