@@ -1,3 +1,4 @@
 mod Enumerated
+mod Grown
 pub mod PlainLemmas
 mod StandardFacts

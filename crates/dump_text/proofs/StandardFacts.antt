@@ -10,12 +10,15 @@ use Rattle.node_model.specs.declared.cell.Cell.TheVariants as cells
 use Rattle.node_model.specs.declared.key.Key.TheVariants as keys
 use Rattle.node_model.specs.declared.reply.Reply.TheVariants as replies
 use Rattle.node_model.specs.declared.slot.FaultKind.TheVariants as kinds
-use Rattle.node_model.specs.declared.value.BodyValue.TheVariants.{Il}
+use Rattle.node_model.specs.declared.value.BodyValue.TheVariants.{Il, NoBody}
 use Rattle.node_model.specs.declared.value.ResourceValue.TheVariants.{Elsewhere}
+use Rattle.sig_tree.specs.Printed.{chars}
+use Rattle.sig_tree.specs.declared.tree.SigTree.TheVariants.{Locals}
 use Rattle.dump_text.specs.Bodies.{op_text, operand_text}
 use Rattle.dump_text.specs.Pieces.{hex_number, quoted}
 use Rattle.dump_text.specs.ReplyText.{reply_text}
 use Rattle.dump_text.specs.Rows.{cell_name, table_text}
+use Rattle.dump_text.specs.ViewTexts.{method_text}
 
 pub quoted_quote : quoted (0x22 ∷ []) ≡ 0x22 ∷ 0x5c ∷ 0x22 ∷ 0x22 ∷ []
 quoted_quote = refl
@@ -138,3 +141,18 @@ pub facts_of_a_wide_library : reply_text (replies.Facts (record {
     ++ codes " runtime=2.5 flags=1 native=0 entry=00000000 version=\"v4.0.30319\""
 unfolding reply_text hex_number digits
 facts_of_a_wide_library = refl
+
+-- a method without parameters and body, with a signature of no types
+pub method_view : reply_text (replies.Method (record {
+  row = record { token = record { table = 6; rid = 1 }; cells = cells.Num 0 ∷ cells.Num 22 ∷ cells.Text (codes "Go") ∷ [] };
+  sig = Locals [];
+  params = [];
+  body = NoBody;
+}))
+    ≡ codes "method MethodDef 06000001 ImplFlags=0 Flags=22 Name=\"Go\"; sig 06000001 locals(); body 06000001 none"
+unfolding reply_text method_text table_text cell_name digits tables chars
+method_view = refl
+
+pub name_text : reply_text (replies.Name (record { table = 2; rid = 3 }) (codes "N.Outer/Inner")) ≡ codes "name 02000003 \"N.Outer/Inner\""
+unfolding reply_text
+name_text = refl

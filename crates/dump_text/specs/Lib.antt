@@ -4,6 +4,7 @@ pub mod KeyTexts
 pub mod Faults
 pub mod Bodies
 pub mod FactsText
+pub mod ViewTexts
 pub mod ReplyText
 pub mod Outcomes
 pub mod Entries

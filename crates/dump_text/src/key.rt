@@ -16,7 +16,7 @@ pub(crate) fn add_word(text: &mut Bytes, word: &[u8], token: Token) -> Result<()
 }
 
 /// Adds a word, a token and a space.
-fn add_of(text: &mut Bytes, word: &[u8], token: Token) -> Result<(), NoMemory>
+pub(crate) fn add_of(text: &mut Bytes, word: &[u8], token: Token) -> Result<(), NoMemory>
     ensures { OnOk result (text.new ≡ text.old ++ (word.now ++ own_text token ++ 0x20 ∷ [])) }
 {
     add_word(text, word, token)?;

@@ -13,6 +13,7 @@ mod outcome;
 mod pieces;
 mod reply;
 mod row;
+mod view;
 
 pub use entry::entry_text;
 pub use outcome::outcome_text;

@@ -1,39 +1,17 @@
 ghost use Rattle.std.specs.Prelude.{◌≡◌, ◌∷◌, ◌++◌, IfOk, OnOk};
-ghost use Rattle.std.specs.List.{flat_map};
 ghost use Rattle.asm_names.specs.Assembly.{hex_text};
-ghost use Rattle.sig_tree.specs.Printed.{printed};
-ghost use Rattle.dump_text.specs.ReplyText.{listed_token, reply_text, resource_text, tokens_text};
+ghost use Rattle.dump_text.specs.ReplyText.{reply_text, resource_text};
 
-use crate::body::{add_body, add_labelled};
+use crate::body::add_labelled;
 use crate::facts::add_facts;
 use crate::fault::add_fault;
-use crate::key::{add_key, add_word};
-use crate::pieces::add_hex;
+use crate::key::{add_key, add_of, add_word};
+use crate::pieces::{add_hex, add_quoted};
 use crate::row::add_row;
+use crate::view::{add_keyed_body, add_method_view, add_sig, add_tokens, add_type_view};
 use cil_base::{Bytes, List, NoMemory, Token};
-use node_model::{BodyValue, Key, Reply, ResourceValue};
-use sig_text::print_sig;
-use sig_tree::Sig;
+use node_model::{Key, Reply, ResourceValue};
 use std::alloc::Global;
-
-/// Adds tokens, each after a space.
-fn add_listed(text: &mut Bytes, tokens: &[Token]) -> Result<(), NoMemory>
-    ensures { OnOk result (text.new ≡ text.old ++ flat_map listed_token tokens.now) }
-{
-    for token in tokens {
-        add_word(text, b" ", *token)?;
-    }
-    Ok(())
-}
-
-/// Adds a list with its key.
-fn add_tokens(text: &mut Bytes, key: &Key, tokens: &[Token]) -> Result<(), NoMemory>
-    ensures { OnOk result (text.new ≡ text.old ++ tokens_text key.now tokens.now) }
-{
-    add_key(text, key)?;
-    text.push(b':')?;
-    add_listed(text, tokens)
-}
 
 /// Adds a space and bytes.
 fn add_spaced(text: &mut Bytes, bytes: &[u8]) -> Result<(), NoMemory>
@@ -41,26 +19,6 @@ fn add_spaced(text: &mut Bytes, bytes: &[u8]) -> Result<(), NoMemory>
 {
     text.push(b' ')?;
     add_hex(text, bytes)
-}
-
-/// Adds a signature with its key.
-#[tactic(auto, unfolding(crate::specs::ReplyText::reply_text))]
-fn add_sig(text: &mut Bytes, token: Token, sig: &Sig) -> Result<(), NoMemory>
-    ensures { OnOk result (text.new ≡ text.old ++ reply_text (Reply.Sig token sig.now)) }
-{
-    let printed = print_sig(text.allocator(), sig)?;
-    add_key(text, &Key::Sig(token))?;
-    text.push(b' ')?;
-    text.extend(printed.as_slice())
-}
-
-/// Adds a body with its key.
-#[tactic(auto, unfolding(crate::specs::ReplyText::reply_text))]
-fn add_keyed_body(text: &mut Bytes, token: Token, body: &BodyValue) -> Result<(), NoMemory>
-    ensures { OnOk result (text.new ≡ text.old ++ reply_text (Reply.Body token body.now)) }
-{
-    add_key(text, &Key::Body(token))?;
-    add_body(text, body)
 }
 
 /// Adds the data of a field with its key.
@@ -91,6 +49,15 @@ fn add_resource(text: &mut Bytes, token: Token, value: &ResourceValue) -> Result
     add_resource_value(text, value)
 }
 
+/// Adds the name of a row.
+#[tactic(auto, unfolding(crate::specs::ReplyText::reply_text))]
+fn add_name(text: &mut Bytes, token: Token, name: &[u8]) -> Result<(), NoMemory>
+    ensures { OnOk result (text.new ≡ text.old ++ reply_text (Reply.Name token name.now)) }
+{
+    add_of(text, b"name ", token)?;
+    add_quoted(text, name)
+}
+
 /// Adds the text of a reply, without a line feed, to a text. After `NoMemory` a front of it may have been added.
 #[tactic(auto, unfolding(crate::specs::ReplyText::reply_text))]
 pub fn add_reply(text: &mut Bytes, reply: &Reply) -> Result<(), NoMemory>
@@ -104,6 +71,11 @@ pub fn add_reply(text: &mut Bytes, reply: &Reply) -> Result<(), NoMemory>
         Reply::Data(token, bytes) => add_data(text, *token, bytes.as_slice()),
         Reply::Resource(token, value) => add_resource(text, *token, value),
         Reply::Facts(facts) => add_facts(text, facts),
+        Reply::Name(token, name) => add_name(text, *token, name.as_slice()),
+        Reply::TypeInfo(view) => add_type_view(text, view),
+        Reply::Method(view) => add_method_view(text, view),
+        Reply::Found(token) => add_word(text, b"found ", *token),
+        Reply::NotFound => text.extend(b"notfound"),
         Reply::Filled(count) => add_labelled(text, b"filled ", *count),
         Reply::Fault(fault) => add_fault(text, fault),
         Reply::Absent(token) => add_word(text, b"absent ", *token),
