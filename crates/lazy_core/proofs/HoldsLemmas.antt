@@ -104,7 +104,7 @@ zeros zero i = refl
 zeros (suc n) zero = refl
 zeros (suc n) (suc i) = zeros n i
 
-none_added : (b : List ℕ) (rows : List ℕ) → ((table : ℕ) → slice_index rows table ≡ image_rows b table) → nodes_of rows (replicate 64 0) [] ≡ (untouched b).nodes
+pub none_added : (b : List ℕ) (rows : List ℕ) → ((table : ℕ) → slice_index rows table ≡ image_rows b table) → nodes_of rows (replicate 64 0) [] ≡ (untouched b).nodes
 none_added b rows same = λ i. record { rows = λ table. count table i; removed = [] }
   where
     count : (table : ℕ) → slice_index rows table + slice_index (replicate 64 0) table ≡ image_rows b table

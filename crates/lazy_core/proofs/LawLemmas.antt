@@ -98,6 +98,11 @@ same_reply g n m (queries.Body t) other = refl
 same_reply g n m (queries.Data t) other = refl
 same_reply g n m (queries.Resource t) other = refl
 same_reply g n m queries.Facts other = refl
+same_reply g n m (queries.Name t) other = refl
+same_reply g n m (queries.TypeInfo t) other = refl
+same_reply g n m (queries.Method t) other = refl
+same_reply g n m (queries.FindType namespace name) other = refl
+same_reply g n m (queries.FindMember of table name sig) other = refl
 same_reply g n m queries.Filled other = absurd (other refl)
 
 pub fills_change : FillsChangeNothingSeen

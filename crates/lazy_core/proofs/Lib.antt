@@ -1,6 +1,7 @@
 pub mod AnswerLemmas
 pub mod ChangeLemmas
 pub mod CountLemmas
+pub mod DirectLemmas
 pub mod EditedLemmas
 pub mod GrowLemmas
 pub mod HistoryLemmas
@@ -12,6 +13,7 @@ pub mod ReplyLemmas
 pub mod RunLemmas
 pub mod SaidLemmas
 pub mod SendLemmas
+pub mod SeveralLemmas
 pub mod StepFacts
 pub mod TryLemmas
 pub mod TryWantLemmas

@@ -1,6 +1,9 @@
 -- What is said of a key by its slot.
-use Rattle.std.proofs.Common.{◌≡◌, refl, sym, subst, ℕ, true, false, List, Some, None, Result, Ok, Err}
+use Rattle.std.proofs.Common.{◌≡◌, refl, sym, subst, ℕ, true, false, List, Some, Result, Ok, Err}
+use Rattle.std.specs.Prelude.{◌&&◌}
 use Rattle.node_model.specs.Immediate.{read}
+use Rattle.node_model.specs.KeyKinds.{has_kind}
+use Rattle.node_model.specs.Keys.{is_key_there}
 use Rattle.node_model.specs.Walk.{part}
 use Rattle.node_model.specs.declared.entry.Entry.{Entry}
 use Rattle.node_model.specs.declared.key.Key.{Key}
@@ -10,9 +13,9 @@ use Rattle.node_model.specs.declared.walk.Halt.TheVariants.{Lacks, Faulty}
 use Rattle.node_model.proofs.HeldLemmas.{whole}
 use Rattle.lazy_core.specs.History.{edits, filled, graph_after}
 use Rattle.lazy_core.specs.Legal.{Legal}
-use Rattle.lazy_core.specs.inner.Replies.{early_of, fits_key, is_whole}
+use Rattle.lazy_core.specs.inner.Replies.{fits_key, is_whole}
 use Rattle.lazy_core.proofs.LawLemmas.{unfilled}
-use Rattle.lazy_core.proofs.ReplyLemmas.{known_of}
+use Rattle.lazy_core.proofs.ReplyLemmas.{known_there}
 
 -- what a key holds is of its kind
 pub fits_held : (b : List ℕ) (h : List Entry) (k : Key) (s : Slot) → s ≡ (graph_after b h).held k → fits_key k s ≡ true
@@ -24,5 +27,6 @@ fits_held b h k s is = subst (λ t. fits_key k t ≡ true) (sym is) (by_part (pa
     by_part (Err (Lacks x)) never = absurd (never x refl)
 
 -- a key that is there and has no slot holds what the file says
-pub read_held : (b : List ℕ) (h : List Entry) (k : Key) → Legal b h → early_of (graph_after b h) k ≡ None → filled b h k ≡ false → read b k ≡ (graph_after b h).held k
-read_held b h k legal early free = sym (unfilled b h k legal (known_of b h k early free) free)
+pub read_held : (b : List ℕ) (h : List Entry) (k : Key) → Legal b h → (is_key_there (graph_after b h).nodes.rows k && has_kind k) ≡ true → filled b h k ≡ false
+    → read b k ≡ (graph_after b h).held k
+read_held b h k legal there free = sym (unfilled b h k legal (known_there b h k there free) free)

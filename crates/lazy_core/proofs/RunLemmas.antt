@@ -20,8 +20,8 @@ use Rattle.lazy_core.specs.Wants.{AllMayPublish, MayPublish}
 use Rattle.lazy_core.specs.declared.step.Step.{Step}
 use Rattle.lazy_core.specs.declared.step.Step.TheVariants as steps
 use Rattle.lazy_core.specs.declared.step.StepAnswer.{StepAnswer}
-use Rattle.lazy_core.specs.declared.wanted.Peek as peeks
-use Rattle.lazy_core.specs.declared.wanted.Peek.TheVariants.{Ready, Need}
+use Rattle.graph_query.specs.declared.answering.Peek as peeks
+use Rattle.graph_query.specs.declared.answering.Peek.TheVariants.{Ready, Need}
 use Rattle.lazy_core.specs.declared.wanted.Tried.{Tried}
 use Rattle.lazy_core.specs.declared.wanted.Tried.TheVariants as tries
 use Rattle.lazy_core.specs.declared.wanted.Wanted.{Wanted}

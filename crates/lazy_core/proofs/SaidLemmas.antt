@@ -18,7 +18,7 @@ use Rattle.node_model.specs.declared.reply.Reply.{Reply}
 use Rattle.lazy_core.specs.History.{filled, fills, graph_after}
 use Rattle.lazy_core.specs.Legal.{WasWanted, reach_why}
 use Rattle.lazy_core.specs.Steps.{peek_at, peeked, tried, tried_answer}
-use Rattle.lazy_core.specs.declared.wanted.Peek.TheVariants.{Ready, Need}
+use Rattle.graph_query.specs.declared.answering.Peek.TheVariants.{Ready, Need}
 use Rattle.lazy_core.specs.declared.wanted.Tried.{Tried}
 use Rattle.lazy_core.specs.declared.wanted.Tried.TheVariants as tries
 use Rattle.lazy_core.proofs.TryLemmas.{all_filled, first_unfilled, tried_by}

@@ -38,8 +38,8 @@ use Rattle.node_model.specs.declared.reply.Reply.TheVariants as replies
 use Rattle.graph_edits.specs.Stands.{up_to}
 use Rattle.lazy_core.specs.History.{edits, filled, fills, graph_after, is_fill_of}
 use Rattle.lazy_core.specs.Steps.{history_after, peek_at, peeked, published, tried, try_at}
-use Rattle.lazy_core.specs.declared.wanted.Peek.{Peek}
-use Rattle.lazy_core.specs.declared.wanted.Peek.TheVariants as peeks
+use Rattle.graph_query.specs.declared.answering.Peek.{Peek}
+use Rattle.graph_query.specs.declared.answering.Peek.TheVariants as peeks
 use Rattle.lazy_core.specs.declared.wanted.Published.TheVariants.{Already}
 use Rattle.lazy_core.specs.declared.wanted.Tried.{Tried}
 use Rattle.lazy_core.specs.declared.wanted.Tried.TheVariants as tries

@@ -45,7 +45,7 @@ last_is b h (j ∷ ks) k e = by_filled (filled b h j) e (last_is b h ks k)
     by_filled false e rest = e
 
 -- the first key that is not filled is not filled, and has what each key has
-first_has : (b : List ℕ) (h : List Entry) (P : Key → Bool) (ks : List Key) (k : Key) → list_all P ks ≡ true → first_unfilled b h ks ≡ Some k
+pub first_has : (b : List ℕ) (h : List Entry) (P : Key → Bool) (ks : List Key) (k : Key) → list_all P ks ≡ true → first_unfilled b h ks ≡ Some k
     → (filled b h k ≡ false) × (P k ≡ true)
 first_has b h P [] k all e = absurd cc
 first_has b h P (j ∷ ks) k all e =

@@ -11,8 +11,8 @@ use Rattle.lazy_core.specs.declared.step.Step.{Step}
 use Rattle.lazy_core.specs.declared.step.Step.TheVariants as steps
 use Rattle.lazy_core.specs.declared.step.StepAnswer.{StepAnswer}
 use Rattle.lazy_core.specs.declared.step.StepAnswer.TheVariants as answers
-use Rattle.lazy_core.specs.declared.wanted.Peek.{Peek}
-use Rattle.lazy_core.specs.declared.wanted.Peek.TheVariants.{Ready, Need}
+use Rattle.graph_query.specs.declared.answering.Peek.{Peek}
+use Rattle.graph_query.specs.declared.answering.Peek.TheVariants.{Ready, Need}
 use Rattle.lazy_core.specs.declared.wanted.Tried.{Tried}
 use Rattle.lazy_core.specs.declared.wanted.Tried.TheVariants as tries
 use Rattle.lazy_core.specs.declared.wanted.Wanted.{Wanted}

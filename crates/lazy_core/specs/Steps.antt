@@ -14,8 +14,8 @@ use Rattle.node_model.specs.declared.key.Key.{Key}
 use Rattle.node_model.specs.declared.query.Query.{Query}
 use Rattle.lazy_core.specs.History.{fills, filled, graph_after}
 use Rattle.lazy_core.specs.Legal.{WasWanted}
-use Rattle.lazy_core.specs.declared.wanted.Peek.{Peek}
-use Rattle.lazy_core.specs.declared.wanted.Peek.TheVariants.{Ready, Need}
+use Rattle.graph_query.specs.declared.answering.Peek.{Peek}
+use Rattle.graph_query.specs.declared.answering.Peek.TheVariants.{Ready, Need}
 use Rattle.lazy_core.specs.declared.wanted.Published.{Published}
 use Rattle.lazy_core.specs.declared.wanted.Published.TheVariants.{Stored, Already}
 use Rattle.lazy_core.specs.declared.wanted.Tried.{Tried}

@@ -7,8 +7,8 @@ use Rattle.node_model.specs.declared.entry.Why.TheVariants as whys
 use Rattle.node_model.specs.declared.key.Key.{Key}
 use Rattle.node_model.specs.declared.query.Query.{Query}
 use Rattle.lazy_core.specs.Steps.{peeked}
-use Rattle.lazy_core.specs.declared.wanted.Peek.{Peek}
-use Rattle.lazy_core.specs.declared.wanted.Peek.TheVariants.{Ready, Need}
+use Rattle.graph_query.specs.declared.answering.Peek.{Peek}
+use Rattle.graph_query.specs.declared.answering.Peek.TheVariants.{Ready, Need}
 
 -- the key that is needed; none where the query is answered
 abbrev pub needed_key : Peek → Option Key

@@ -45,7 +45,7 @@ impl Model for Core {
 }
 
 /// The number of rows of each table.
-fn row_counts(image: &Image) -> [u32; 64]
+pub(crate) fn row_counts(image: &Image) -> [u32; 64]
     ensures rows { (table : ℕ) → slice_index result table ≡ image_rows image.now table }
     ensures long { length result ≡ 64 }
 {

@@ -18,6 +18,7 @@ mod wanted;
 mod wants;
 
 pub use direct::image_reply;
+pub use graph_query::Peek;
 pub use laws::{
     core_may_move, each_step_is_answered, each_want_stands, faults_are_of_the_file,
     fills_change_nothing_seen, need_is_wanted, runs_stay_legal, skipped_exactly,
@@ -27,4 +28,4 @@ pub use lazy::Core;
 pub use run::run_steps;
 pub use step::{Step, StepAnswer};
 pub use turn::fill_next;
-pub use wanted::{Peek, Published, Tried, Wanted};
+pub use wanted::{Published, Tried, Wanted};

@@ -1,15 +1,17 @@
 ghost use Rattle.std.specs.Prelude.{◌≡◌, IfOk, OnOk, length};
 ghost use Rattle.lazy_core.specs.Run.{answered, history_then, publish_answer, publish_history, run};
 ghost use Rattle.lazy_core.specs.Run.{query_want, want_of, want_of_try, want_then, wanted_by};
+ghost use Rattle.lazy_core.specs.Steps.{history_tried, peeked, tried};
 ghost use Rattle.lazy_core.specs.Wants.{AllMayPublish, MayPublish};
 
 use crate::lazy::Core;
 use crate::publish::fill;
 use crate::step::{Step, StepAnswer};
-use crate::wanted::{Peek, Tried, Wanted};
+use crate::wanted::{Tried, Wanted};
 use crate::wants::Wants;
 use cil_base::{List, NoMemory};
-use node_model::{By, Key, Query, Why};
+use graph_query::Peek;
+use node_model::{By, Edit, Key, Query, Why};
 use std::alloc::Global;
 
 /// What a caller wants that needs this key for a query.
@@ -90,6 +92,43 @@ fn publish(alloc: Global, core: &mut Core, want: Option<Wanted>) -> Result<StepA
     Ok(StepAnswer::Published(fill(alloc, core, wanted)?))
 }
 
+/// Asks a query. Gives the answer, and what it leaves wanted.
+fn take_peek(
+    alloc: Global,
+    core: &Core,
+    by: By,
+    query: &Query,
+) -> Result<(StepAnswer, Option<Wanted>), NoMemory>
+    ensures answer { IfOk result (λ taken. taken.0
+        ≡ StepAnswer.Peek (peeked core.now.bytes core.now.history query.now)) }
+    ensures want { IfOk result (λ taken. taken.1
+        ≡ want_of by query.now core.now.history (peeked core.now.bytes core.now.history query.now)) }
+{
+    let peek = core.peek(alloc, query)?;
+    let want = want_of(alloc, core, by, query, &peek)?;
+    Ok((StepAnswer::Peek(peek), want))
+}
+
+/// Tries an edit. Gives the answer, and what it leaves wanted.
+fn take_try(
+    alloc: Global,
+    core: &mut Core,
+    by: By,
+    edit: &Edit,
+) -> Result<(StepAnswer, Option<Wanted>), NoMemory>
+    ensures answer { IfOk result (λ taken. taken.0
+        ≡ StepAnswer.Tried (tried core.old.bytes core.old.history edit.now)) }
+    ensures want { IfOk result (λ taken. taken.1
+        ≡ want_of_try by core.old.history (tried core.old.bytes core.old.history edit.now)) }
+    ensures history { OnOk result (core.new.history
+        ≡ history_tried by edit.now core.old.history (tried core.old.bytes core.old.history edit.now)) }
+    ensures image { core.new.bytes ≡ core.old.bytes }
+{
+    let tried = core.try_edit(alloc, by, edit)?;
+    let want = want_of_try(core, by, &tried)?;
+    Ok((StepAnswer::Tried(tried), want))
+}
+
 /// Takes a step. Gives its answer, and what it leaves wanted.
 #[tactic(auto, using(crate::proofs::RunLemmas::may_publish))]
 fn take_step(
@@ -105,16 +144,8 @@ fn take_step(
     ensures image { core.new.bytes ≡ core.old.bytes }
 {
     match step {
-        Step::Peek { by, query } => {
-            let peek = core.peek(alloc, query)?;
-            let want = want_of(alloc, core, *by, query, &peek)?;
-            Ok((StepAnswer::Peek(peek), want))
-        }
-        Step::TryEdit { by, edit } => {
-            let tried = core.try_edit(alloc, *by, edit)?;
-            let want = want_of_try(core, *by, &tried)?;
-            Ok((StepAnswer::Tried(tried), want))
-        }
+        Step::Peek { by, query } => take_peek(alloc, core, *by, query),
+        Step::TryEdit { by, edit } => take_try(alloc, core, *by, edit),
         Step::Publish { of } => {
             let answer = publish(alloc, core, wanted_by(alloc, wants, *of)?)?;
             Ok((answer, None))

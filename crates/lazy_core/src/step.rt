@@ -1,7 +1,8 @@
 ghost use Rattle.std.specs.Prelude.{◌≡◌, IfOk};
 
-use crate::wanted::{Peek, Published, Tried};
+use crate::wanted::{Published, Tried};
 use cil_base::NoMemory;
+use graph_query::Peek;
 use node_model::{By, Edit, Query};
 use std::alloc::Global;
 

@@ -6,8 +6,8 @@ use crate::laws::need_is_wanted;
 use crate::lazy::Core;
 use crate::publish::fill;
 use crate::run::query_want;
-use crate::wanted::Peek;
 use cil_base::NoMemory;
+use graph_query::Peek;
 use node_model::{By, Key, Query};
 use std::alloc::Global;
 

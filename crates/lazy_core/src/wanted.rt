@@ -1,7 +1,7 @@
 ghost use Rattle.std.specs.Prelude.{◌≡◌, IfOk};
 
 use cil_base::{List, NoMemory, Token};
-use node_model::{By, EditRefusal, Key, Reply, Why};
+use node_model::{By, EditRefusal, Key, Why};
 use std::alloc::Global;
 
 /// A key that was wanted and not filled: by whom, at how many entries of the history, for what, and which.
@@ -11,15 +11,6 @@ pub struct Wanted {
     pub point: u64,
     pub why: Why,
     pub key: Key,
-}
-
-/// What a core says to a query.
-#[derive(Drop)]
-pub enum Peek {
-    /// All keys that the query looks at are filled: its reply.
-    Ready(Reply),
-    /// The first key that it looks at and that is not filled.
-    Need(Key),
 }
 
 /// What a core says to an edit.
@@ -55,18 +46,6 @@ impl Wanted {
             why,
             key: self.key,
         })
-    }
-}
-
-impl Peek {
-    /// An equal answer of its own.
-    pub fn copy(&self, alloc: Global) -> Result<Peek, NoMemory>
-        ensures { IfOk result (λ copy. copy ≡ self.now) }
-    {
-        match self {
-            Peek::Ready(reply) => Ok(Peek::Ready(reply.copy(alloc)?)),
-            Peek::Need(key) => Ok(Peek::Need(*key)),
-        }
     }
 }
 

@@ -1,18 +1,17 @@
-use Rattle.std.proofs.Common.{◌≡◌, sym, ◌∙◌, ap, subst, IfOk}
-use Rattle.node_model.specs.declared.reply.Reply.TheVariants as replies
-use Rattle.lazy_core.specs.History.{fills}
-use Rattle.lazy_core.specs.Slots.{CoreState}
-use Rattle.lazy_core.specs.declared.wanted.Peek.{Peek}
-use Rattle.lazy_core.specs.declared.wanted.Peek.TheVariants.{Ready}
-use Rattle.lazy_core.proofs.ReplyLemmas.{peeked_is, peeked_none}
+use Rattle.std.proofs.Common.{◌≡◌, ◌∙◌, ap, subst, IfOk}
+use Rattle.graph_query.specs.Answered.{query_answer, slots_asked}
+use Rattle.graph_query.specs.declared.answering.Peek.{Peek}
+use Rattle.lazy_core.specs.History.{graph_after}
+use Rattle.lazy_core.proofs.ReplyLemmas.{peeked_over}
 use Rattle.lazy_core.proofs.lazy.Core.peek.Goals as goal
 
-pub returns-in-Some : goal.returns-in-Some
-returns-in-Some c =
-    subst (λ (p : Peek). IfOk c.peek_key.result (λ peek. peek ≡ p))
-    (sym (peeked_is c.args.self.now.bytes c.args.self.now.history c.args.query.now c.in-Some.key (sym c.in-Some.ensures))) c.peek_key.ensures
-
-pub returns-in-None : goal.returns-in-None
-returns-in-None c =
-    ap (λ n. Ready (replies.Filled n)) (c.self.invariant.2 ∙ ap (λ (v : CoreState). fills v.history) c.self.view_is)
-    ∙ sym (peeked_none c.args.self.now.bytes c.args.self.now.history c.args.query.now (sym c.in-None.ensures))
+pub returns : goal.returns
+returns c =
+    let s = c.args.self.now in
+    let q = c.args.query.now in
+    let g = c.asked.result in
+    subst (λ (p : Peek). IfOk c.answer.result (λ peek. peek ≡ p))
+    (ap (λ n. query_answer n (slots_asked g) g.fills q) c.asked.ensures.nodes
+    ∙ ap (λ f. query_answer (graph_after s.bytes s.history).nodes (slots_asked g) f q) c.asked.ensures.fills
+    ∙ peeked_over s.bytes s.history q (slots_asked g) c.asked.ensures.slots)
+    c.answer.ensures

@@ -1,7 +1,7 @@
 use Rattle.std.proofs.Common.{◌≡◌, refl, rules}
 use Rattle.node_model.specs.declared.entry.Why.TheVariants as whys
 use Rattle.lazy_core.specs.Steps.{peeked}
-use Rattle.lazy_core.specs.declared.wanted.Peek.TheVariants.{Need, Ready}
+use Rattle.graph_query.specs.declared.answering.Peek.TheVariants.{Need, Ready}
 use Rattle.lazy_core.proofs.SaidLemmas.{ready_is}
 use Rattle.lazy_core.proofs.WantedLemmas.{needed}
 use Rattle.shared_module.specs.Adds.{IsForQuery}
