@@ -4,7 +4,8 @@
 Usage: tools/edit_images.py FOLDER
 
 `badrow.dll` is the small image with a type whose name is no text. `nest.dll` has NestedClass rows of which one has no
-EnclosingClass and two name types that are not there (ECMA-335 II.22.32). The others are those of tools/row_images.py.
+EnclosingClass and two name types that are not there (ECMA-335 II.22.32). `member.dll` has a type whose second field has
+a name that is not there, and `many.dll` a type of 1,000 members. The others are those of tools/row_images.py.
 """
 import sys
 
@@ -30,7 +31,24 @@ def nestings():
     return image_of({0x00: module, 0x02: types, 0x29: [(2, 1), (3, 0), (9, 1), (4, 9), (4, 3)]}, strings, blobs)
 
 
-IMAGES = {"badrow.dll": bad_row, "nest.dll": nestings, "sigs.dll": signatures, "bodies.dll": lambda: bodies()[0],
+def damaged_member():
+    strings, blobs, module = heaps("member.dll")
+    field, method = blobs.blob("06 08"), blobs.blob("00 00 01")
+    fields = [(0, strings.text("a"), field), (0, 0x7FFF, field), (0, strings.text("c"), field)]
+    return image_of({0x00: module, 0x02: [(0, strings.text("T"), 0, 0, 1, 1)], 0x04: fields,
+                     0x06: [(0, 0, 0, strings.text("Go"), method, 1)]}, strings, blobs)
+
+
+def many_members():
+    strings, blobs, module = heaps("many.dll")
+    field, method = blobs.blob("06 08"), blobs.blob("00 00 01")
+    return image_of({0x00: module, 0x02: [(0, strings.text("T"), 0, 0, 1, 1)],
+                     0x04: [(0, strings.text(f"f{i}"), field) for i in range(600)],
+                     0x06: [(0, 0, 0, strings.text(f"m{i}"), method, 1) for i in range(400)]}, strings, blobs)
+
+
+IMAGES = {"badrow.dll": bad_row, "nest.dll": nestings, "member.dll": damaged_member, "many.dll": many_members,
+          "sigs.dll": signatures, "bodies.dll": lambda: bodies()[0],
           "data.dll": field_data, "res.dll": resources}
 
 

@@ -1,7 +1,7 @@
 //! What is seen of the key that a query looks at, and which keys the words of an edit name.
 
 use crate::edit::edits;
-use crate::query::query;
+use crate::query::queries;
 use cil_base::{Bytes, List, NoMemory};
 use dump_text::reply_text;
 use graph_edits::needs;
@@ -63,7 +63,8 @@ fn key_text(alloc: Global, core: &Core, key: Key) -> Result<Bytes, NoMemory> {
 
 /// What is seen of the key that a line's query looks at.
 pub fn look(alloc: Global, core: &Core, line: &str) -> Result<Bytes, NoMemory> {
-    let Some(query) = query(line) else {
+    let queries = queries(alloc, line)?;
+    let Some(query) = queries.as_slice().first() else {
         return List::from_slice(alloc, b"no query");
     };
     match query.key() {

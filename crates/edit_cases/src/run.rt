@@ -1,7 +1,7 @@
 use crate::edit::edits;
 use crate::late::late;
 use crate::looked::{look, needed};
-use crate::query::query;
+use crate::query::queries;
 use crate::texts::end_text;
 use crate::words::{number, word};
 use cil_base::{Bytes, List, NoMemory};
@@ -11,7 +11,7 @@ use node_model::{By, Edit, Entry, Query};
 use std::alloc::Global;
 
 /// The most keys that a command of a case may need.
-const MOST_NEEDS: u32 = 64;
+const MOST_NEEDS: u32 = 8192;
 
 /// The caller's command of a line.
 fn by(line: &str) -> By {
@@ -86,9 +86,10 @@ fn filled(alloc: Global, core: Core, by: By, query: &Query) -> Result<(Core, Byt
 
 /// What a query answers, or the fill of what it needs next; a query that is none changes nothing.
 fn queried(alloc: Global, core: Core, line: &str) -> Result<(Core, Bytes), NoMemory> {
-    match query(line) {
-        Some(query) if word(line, 1) == "fill" => filled(alloc, core, by(line), &query),
-        Some(query) => asked(alloc, core, by(line), &query),
+    let queries = queries(alloc, line)?;
+    match queries.as_slice().first() {
+        Some(query) if word(line, 1) == "fill" => filled(alloc, core, by(line), query),
+        Some(query) => asked(alloc, core, by(line), query),
         None => Ok((core, List::from_slice(alloc, b"no query")?)),
     }
 }
