@@ -9,6 +9,7 @@ mod escaped;
 mod laws;
 mod list;
 mod no_memory;
+mod number_laws;
 mod place;
 mod signed;
 mod token;
@@ -17,12 +18,10 @@ pub use boxed::Boxed;
 pub use compressed::{Compressed, read_compressed, write_compressed};
 pub use entries::{entry_at_front, from_index, units_at};
 pub use escaped::escape;
-pub use laws::{
-    length_decides_the_entry, numbers_have_one_reading, signed_numbers_have_one_reading,
-    tokens_are_numbers,
-};
+pub use laws::{length_decides_the_entry, tokens_are_numbers};
 pub use list::{Bytes, List};
 pub use no_memory::NoMemory;
+pub use number_laws::{numbers_have_one_reading, signed_numbers_have_one_reading};
 pub use place::{number_at, number_within};
 pub use signed::{read_signed, write_signed};
 pub use token::{MAX_RID, Token};

@@ -13,19 +13,19 @@ use Rattle.node_model.specs.declared.walk.Halt.TheVariants.{Lacks, Faulty}
 use Rattle.node_model.proofs.HeldLemmas.{graph_never_lacks}
 use Rattle.node_model.proofs.QueryLemmas.{looked_same}
 use Rattle.node_model.proofs.WalkLemmas.{Partial, first_lacking, until}
-use Rattle.graph_query.specs.Answered.{answered_by, query_answer}
+use Rattle.graph_query.specs.Answered.{peek_from, query_answer}
 use Rattle.graph_query.specs.AnswersMeet.{QueriesMeetTheGraph, need_or_ready}
 
 -- the graph itself lacks nothing
 abbrev pub NeverLacks : Graph → Type 0
 NeverLacks g = (w : Walk Reply) (x : Key) → said (all_slots g) w ≡ Err (Lacks x) → ⊥
 
-answer_said : (s : Result Reply Halt) → ((x : Key) → s ≡ Err (Lacks x) → ⊥) → answered_by None s ≡ need_or_ready None (reply_said s)
+answer_said : (s : Result Reply Halt) → ((x : Key) → s ≡ Err (Lacks x) → ⊥) → peek_from None s ≡ need_or_ready None (reply_said s)
 answer_said (Ok r) never = refl
 answer_said (Err (Faulty f)) never = refl
 answer_said (Err (Lacks x)) never = absurd (never x refl)
 
-by_found : (o : Option Key) (s : Result Reply Halt) → ((x : Key) → s ≡ Err (Lacks x) → ⊥) → answered_by None (until o s) ≡ need_or_ready o (reply_said s)
+by_found : (o : Option Key) (s : Result Reply Halt) → ((x : Key) → s ≡ Err (Lacks x) → ⊥) → peek_from None (until o s) ≡ need_or_ready o (reply_said s)
 by_found (Some k) s never = refl
 by_found None s never = answer_said s never
 
@@ -38,11 +38,11 @@ answer_over g full p fills q is never = by_early (early_reply g.nodes q)
     w : Walk Reply
     w = query_walk g.nodes fills q
 
-    by_early : (o : Option Reply) → answered_by o (said p w)
+    by_early : (o : Option Reply) → peek_from o (said p w)
         ≡ need_or_ready (find (λ k. not (full k)) (unless_early o (looked (all_slots g) (query_walk g.nodes 0 q)))) (reply_by o (reply_said (said (all_slots g) w)))
     by_early (Some r) = refl
     by_early None =
-        ap (answered_by None) (first_lacking full g.held p is w)
+        ap (peek_from None) (first_lacking full g.held p is w)
         ∙ by_found (find (λ k. not (full k)) (looked (all_slots g) w)) (said (all_slots g) w) (never w)
         ∙ ap (λ ks. need_or_ready (find (λ k. not (full k)) ks) (reply_said (said (all_slots g) w))) (sym (looked_same g.nodes (all_slots g) fills q))
 

@@ -24,12 +24,12 @@ abbrev pub slots_asked : QueryGraph → Key → Option Slot
 slots_asked g k = slot_at g.slots.now k
 
 -- by what is said before any key is looked at, and by what was said of the keys
-abbrev pub answered_by : Option Reply → Result Reply Halt → Peek
-answered_by (Some early) said = Ready early
-answered_by None (Ok reply) = Ready reply
-answered_by None (Err (Faulty fault)) = Ready (replies.Fault fault)
-answered_by None (Err (Lacks k)) = Need k
+abbrev pub peek_from : Option Reply → Result Reply Halt → Peek
+peek_from (Some early) said = Ready early
+peek_from None (Ok reply) = Ready reply
+peek_from None (Err (Faulty fault)) = Ready (replies.Fault fault)
+peek_from None (Err (Lacks k)) = Need k
 
 -- the reply, or the first key that the query looks at and that has no slot
 unfoldable pub query_answer : Nodes → (Key → Option Slot) → ℕ → Query → Peek
-query_answer n slots fills q = answered_by (early_reply n q) (said slots (query_walk n fills q))
+query_answer n slots fills q = peek_from (early_reply n q) (said slots (query_walk n fills q))

@@ -2,7 +2,7 @@
 
 ghost use Rattle.std.specs.Prelude.{◌≡◌, codes, IfOk, None, Some};
 ghost use Rattle.node_model.specs.Parts.{Meets};
-ghost use Rattle.node_model.specs.RowNames.{is_type_table, name_of_type, nested_walk, scoped_walk, type_def_walk, type_level};
+ghost use Rattle.node_model.specs.RowNames.{is_type_table, name_of_type, nested_walk, scoped_walk, type_def_walk, type_name_level};
 ghost use Rattle.node_model.specs.RowNames.{type_name_walk, type_ref_walk, unknown_name, within_walk};
 ghost use Rattle.node_model.specs.RowTexts.{inner_type_name, own_type_name, qualified_name, token_named};
 ghost use Rattle.node_model.specs.Walk.{said};
@@ -191,10 +191,15 @@ fn type_ref_name(alloc: Global, graph: &QueryGraph, depth: u32, token: Token) ->
 
 /// The name of a type, with at most `depth` names for the types that it is in.
 #[cycle(type_names)]
-#[tactic(auto, unfolding(node_model::specs::RowNames::type_level))]
-fn type_level(alloc: Global, graph: &QueryGraph, depth: u32, token: Token) -> Result<Bytes, Stop>
+#[tactic(auto, unfolding(node_model::specs::RowNames::type_name_level))]
+fn type_name_level(
+    alloc: Global,
+    graph: &QueryGraph,
+    depth: u32,
+    token: Token,
+) -> Result<Bytes, Stop>
     ensures { Meets result (said (slots_asked graph.now)
-        (type_level (nodes_asked graph.now) (type_name_walk (nodes_asked graph.now) depth) token)) }
+        (type_name_level (nodes_asked graph.now) (type_name_walk (nodes_asked graph.now) depth) token)) }
 {
     if token.table == table::TYPE_DEF {
         type_def_name(alloc, graph, depth, token)
@@ -217,5 +222,5 @@ pub(crate) fn type_name(
     if depth == 0 {
         return Ok(unknown_name(alloc)?);
     }
-    type_level(alloc, graph, depth - 1, token)
+    type_name_level(alloc, graph, depth - 1, token)
 }

@@ -12,6 +12,7 @@ mod publish;
 mod run;
 mod slot_reply;
 mod step;
+mod step_laws;
 mod try_edit;
 mod turn;
 mod wanted;
@@ -20,12 +21,14 @@ mod wants;
 pub use direct::image_reply;
 pub use graph_query::Peek;
 pub use laws::{
-    core_may_move, each_step_is_answered, each_want_stands, faults_are_of_the_file,
-    fills_change_nothing_seen, need_is_wanted, runs_stay_legal, skipped_exactly,
-    try_need_is_wanted, unfilled_is_untouched,
+    faults_are_of_the_file, fills_change_nothing_seen, need_is_wanted, try_need_is_wanted,
+    unfilled_is_untouched,
 };
 pub use lazy::Core;
 pub use run::run_steps;
 pub use step::{Step, StepAnswer};
+pub use step_laws::{
+    core_may_move, each_step_is_answered, each_want_stands, runs_stay_legal, skipped_exactly,
+};
 pub use turn::fill_next;
 pub use wanted::{Published, Tried, Wanted};

@@ -11,7 +11,7 @@ use Rattle.pe_image.proofs.Finding.{find-passes}
 use Rattle.sig_tree.specs.Printed.{named_sig, own_text, tokens}
 use Rattle.node_model.specs.KeyKinds.{has_sig, may_link}
 use Rattle.node_model.specs.Nodes.{Nodes, is_live_row}
-use Rattle.node_model.specs.RowNames.{assembly_walk, has_name, is_assembly_table, is_member, is_type_table, name_of_type, name_walk, named_in_sig, nested_walk, scoped_walk, sig_walk, type_def_walk, type_level, type_name_walk, type_ref_walk, unknown_name, within_walk}
+use Rattle.node_model.specs.RowNames.{assembly_walk, has_name, is_assembly_table, is_member, is_type_table, name_of_type, name_walk, named_in_sig, nested_walk, scoped_walk, sig_walk, type_def_walk, type_name_level, type_name_walk, type_ref_walk, unknown_name, within_walk}
 use Rattle.node_model.specs.RowTexts.{inner_type_name, own_type_name, token_named}
 use Rattle.node_model.specs.Walk.{Walk, Gives, Asks, each_walk, then_walk}
 use Rattle.node_model.specs.declared.key.Key.TheVariants.{Row, Sig, Linked}
@@ -100,8 +100,8 @@ or_second : (x y : Bool) → x ≡ false → (x || y) ≡ true → y ≡ true
 or_second false y e f = f
 or_second true y e f = absurd cc
 
-level_known : (n : Nodes) (inner : Token → Walk (List ℕ)) → InnerKnown n inner → InnerKnown n (type_level n inner)
-unfolding type_level
+level_known : (n : Nodes) (inner : Token → Walk (List ℕ)) → InnerKnown n inner → InnerKnown n (type_name_level n inner)
+unfolding type_name_level
 level_known n inner each t live type = by_table (t.table == type_def) refl
   where
     by_table : (x : Bool) → (t.table == type_def) ≡ x → Known n (if x then type_def_walk n inner t else type_ref_walk n inner t)

@@ -20,7 +20,7 @@ use Rattle.node_model.specs.Keys.{same_key, same_token}
 use Rattle.node_model.specs.Lists.{tokens_slot}
 use Rattle.node_model.specs.Questions.{early_reply, query_walk}
 use Rattle.node_model.specs.Replies.{all_slots, reach, reply}
-use Rattle.node_model.specs.RowNames.{has_name, name_walk, named_in_sig, sig_walk, type_level, type_name_walk}
+use Rattle.node_model.specs.RowNames.{has_name, name_walk, named_in_sig, sig_walk, type_name_level, type_name_walk}
 use Rattle.node_model.specs.RowTexts.{cell_among, inner_type_name, own_type_name}
 use Rattle.node_model.specs.Searches.{find_member_walk, find_type_walk}
 use Rattle.node_model.specs.TypeViews.{method_walk, type_walk}
@@ -102,7 +102,7 @@ pub inner_name :
     × (reply home 0 (queries.Name (type 1)) ≡ replies.Name (type 1) (codes "<Module>"))
     × (reply home 0 (queries.Name (type_ref_row 2)) ≡ replies.Name (type_ref_row 2) (codes "M.A/B"))
     × (reach home (queries.Name (type_ref_row 2)) ≡ Row (type_ref_row 2) ∷ Row (type_ref_row 1) ∷ [])
-unfolding reach reply early_reply query_walk name_walk type_level has_name own_type_name inner_type_name cell_among tables
+unfolding reach reply early_reply query_walk name_walk type_name_level has_name own_type_name inner_type_name cell_among tables
 inner_name = (refl, refl, refl, refl, refl)
 
 -- a removed type is a mark and no key; a removed NestedClass row is passed over
@@ -112,7 +112,7 @@ pub removed_name :
     × (reply (home_after (nesting ∷ [])) 0 (queries.Name (type 3)) ≡ replies.Name (type 3) (codes "Inner"))
     × (reach (home_after (nesting ∷ [])) (queries.Name (type 3)) ≡ Linked (type 3) NestedClass ∷ Row (type 3) ∷ [])
     × (reply (home_after (type 2 ∷ [])) 0 (queries.Name (type 2)) ≡ replies.Removed (type 2))
-unfolding reach reply early_reply query_walk name_walk type_level has_name own_type_name inner_type_name cell_among tables
+unfolding reach reply early_reply query_walk name_walk type_name_level has_name own_type_name inner_type_name cell_among tables
 removed_name = (refl, refl, refl, refl, refl)
 
 -- a removed method is passed over; a removed row that nests a type stays in the list
@@ -175,5 +175,5 @@ sig_said g ps =
 pub field_name :
     (said (all_slots home) (name_walk home.nodes field_row) ≡ Ok (codes "field class N.Outer"))
     × (said (all_slots (home_after (type 2 ∷ []))) (name_walk (home_after (type 2 ∷ [])).nodes field_row) ≡ Ok (codes "field class ?"))
-unfolding name_walk sig_walk type_level own_type_name cell_among chars tables
+unfolding name_walk sig_walk type_name_level own_type_name cell_among chars tables
 field_name = (ap (λ ps. sig_said home (chars (codes "field ") ++ ps)) (class_pieces (type 2)), ap (λ ps. sig_said (home_after (type 2 ∷ [])) (chars (codes "field ") ++ ps)) (class_pieces (type 2)))

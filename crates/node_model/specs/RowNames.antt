@@ -62,13 +62,13 @@ type_ref_walk n inner t =
     Asks (Row t) (λ row. scoped_walk n inner row (token_named (codes "ResolutionScope") row))
 
 -- a type, by the walk for the type that it is in
-unfoldable pub type_level : Nodes → (Token → Walk (List ℕ)) → Token → Walk (List ℕ)
-type_level n inner t = if t.table == type_def then type_def_walk n inner t else type_ref_walk n inner t
+unfoldable pub type_name_level : Nodes → (Token → Walk (List ℕ)) → Token → Walk (List ℕ)
+type_name_level n inner t = if t.table == type_def then type_def_walk n inner t else type_ref_walk n inner t
 
 -- a type with at most so many names in one another; one that is deeper is unknown
 abbrev pub type_name_walk : Nodes → ℕ → Token → Walk (List ℕ)
 type_name_walk n zero t = Gives unknown_name
-type_name_walk n (suc depth) t = type_level n (type_name_walk n depth) t
+type_name_walk n (suc depth) t = type_name_level n (type_name_walk n depth) t
 
 -- a type in a signature; a TypeSpec row goes by its token
 abbrev pub named_in_sig : Nodes → (Token → Walk (List ℕ)) → Token → Walk (List ℕ)

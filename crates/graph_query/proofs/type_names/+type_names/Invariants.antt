@@ -22,5 +22,5 @@ decreases-type_def_name l = 6 * l.depth + 3
 abbrev pub decreases-type_ref_name : goal.decreases-type_ref_name
 decreases-type_ref_name l = 6 * l.depth + 4
 
-abbrev pub decreases-type_level : goal.decreases-type_level
-decreases-type_level l = 6 * l.depth + 5
+abbrev pub decreases-type_name_level : goal.decreases-type_name_level
+decreases-type_name_level l = 6 * l.depth + 5
