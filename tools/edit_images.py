@@ -5,7 +5,7 @@ Usage: tools/edit_images.py FOLDER
 
 `badrow.dll` is the small image with a type whose name is no text. `nest.dll` has NestedClass rows of which one has no
 EnclosingClass and two name types that are not there (ECMA-335 II.22.32). `member.dll` has a type whose second field has
-a name that is not there, and `many.dll` a type of 1,000 members. The others are those of tools/row_images.py.
+a name that is not there, and `many.dll` a type of 5,000 members. The others are those of tools/row_images.py.
 """
 import sys
 
@@ -43,8 +43,8 @@ def many_members():
     strings, blobs, module = heaps("many.dll")
     field, method = blobs.blob("06 08"), blobs.blob("00 00 01")
     return image_of({0x00: module, 0x02: [(0, strings.text("T"), 0, 0, 1, 1)],
-                     0x04: [(0, strings.text(f"f{i}"), field) for i in range(600)],
-                     0x06: [(0, 0, 0, strings.text(f"m{i}"), method, 1) for i in range(400)]}, strings, blobs)
+                     0x04: [(0, strings.text(f"f{i}"), field) for i in range(3000)],
+                     0x06: [(0, 0, 0, strings.text(f"m{i}"), method, 1) for i in range(2000)]}, strings, blobs)
 
 
 IMAGES = {"badrow.dll": bad_row, "nest.dll": nestings, "member.dll": damaged_member, "many.dll": many_members,
