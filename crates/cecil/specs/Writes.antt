@@ -1,9 +1,9 @@
 -- What a writer holds after a write, and what is told of a status, where the writer tells its bytes.
 use Rattle.std.specs.Prelude.{ℕ, ◌≤◌, ◌⊎◌, List, Option, length, take, codes}
 use Rattle.std.specs.Io.KnownBytes.{Appends}
-use Rattle.cecil_top.specs.Statuses.{status_text}
-use Rattle.cecil_top.specs.Lines.{line}
-use Rattle.cecil_top.specs.declared.status.Status.{Status}
+use Rattle.cecil_inspect.specs.Statuses.{status_text}
+use Rattle.cecil_inspect.specs.Lines.{line}
+use Rattle.cecil_inspect.specs.declared.status.Status.{Status}
 
 -- a part of the bytes was added, from their front
 abbrev pub AppendsPart : Option (List ℕ) → Option (List ℕ) → List ℕ → Type 0

@@ -1,12 +1,12 @@
 ghost use Rattle.std.specs.Prelude.{◌≡◌, ◌≢◌, OnOk};
 ghost use Rattle.std.specs.Io.KnownBytes.{Appends, Keeps};
 ghost use Rattle.std.specs.Process.{exit_status};
-ghost use Rattle.cecil_top.specs.Statuses.{number_of};
-ghost use Rattle.cecil_top.specs.Lines.{line};
+ghost use Rattle.cecil_inspect.specs.Statuses.{number_of};
+ghost use Rattle.cecil_inspect.specs.Lines.{line};
 ghost use Rattle.cecil.specs.Writes.{Tells};
 
 use crate::standard_output::write_whole;
-use cecil_top::{Status, status_line};
+use cecil_inspect::{Status, status_line};
 use cil_base::NoMemory;
 use std::alloc::Global;
 use std::io::{self, Write};

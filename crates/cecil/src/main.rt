@@ -6,7 +6,7 @@ mod current_folder;
 mod ending;
 mod standard_output;
 
-use cecil_top::{Status, inspect};
+use cecil_inspect::{Status, inspect};
 use command_line::words;
 use current_folder::CurrentFolder;
 use ending::{exit_code, tell};

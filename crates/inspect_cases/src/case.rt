@@ -2,7 +2,7 @@ use crate::digest::{EMPTY, go_on};
 use crate::number::{byte, number, place};
 use crate::run::{Outcome, Setting, content, run};
 use crate::steps;
-use cecil_top::status_line;
+use cecil_inspect::status_line;
 use cil_base::{NoMemory, Token};
 use cil_outside::Got;
 use std::alloc::Global;

@@ -1,4 +1,4 @@
-use cecil_top::{Status, inspect, inspect_sound};
+use cecil_inspect::{Status, inspect, inspect_sound};
 use cil_base::{List, NoMemory};
 use cil_outside::{
     Folder, Got, MemoryOutlet, NamedFile, Outlet, SoundFolder, SoundOutlet, TableFolder,
