@@ -1,0 +1,85 @@
+-- The commands of an actor, one after the other.
+use Rattle.std.proofs.Common.{◌≡◌, refl, sym, ◌∙◌, ap, subst, ℕ, suc, ◌+◌, ◌<◌, ◌≤◌, List, [], ◌∷◌, ◌++◌, Option, Some, Result, Ok, Err, OnOk, IfOk, All, false, is_err, length, length-append, map, map-append, take, slice_get, arith}
+use Rattle.std.proofs.Math.Seq.{take-append_seam}
+use mathlib.Core.Logic.{dite}
+use native.Mathlib.Decide.{dec_le}
+use Rattle.std.proofs.lemmas.List.{take-append-le}
+use Rattle.cil_base.specs.Token.{Token}
+use Rattle.cil_base.specs.declared.no_memory.NoMemory.{NoMemory}
+use Rattle.job_text.specs.References.{replaced}
+use Rattle.job_text.specs.declared.command.Command.{Command}
+use Rattle.job_text.specs.declared.command.Command.TheVariants as commands
+use Rattle.shared_module.specs.declared.ask.Answer.{Answer}
+use Rattle.shared_module.specs.declared.edit.Edited.{Edited}
+use Rattle.shared_module.proofs.PrefixLemmas.{one_behind}
+use Rattle.cecil_top.specs.Commands.{token_made}
+use Rattle.cecil_top.specs.Explains.{AreDone}
+use Rattle.cecil_top.specs.Runnable.{CanRun}
+use Rattle.cecil_top.specs.declared.said.Said.{Said}
+use Rattle.cecil_top.specs.declared.said.Said.TheVariants as saids
+use Rattle.cecil_top.specs.inner.Actors.{AreDoneTo}
+use Rattle.cecil_top.specs.inner.Passes.{Held, IsPassStep, IsSaidStep, IsToldAnswer, IsToldEdit, Shared}
+use Rattle.cecil_top.proofs.PlaceLemmas.{front_item, same_at}
+
+-- what holds where there is no error
+pub when_ok : (P : Type 0) (r : Result (Unit {0}) NoMemory) → is_err r ≡ false → OnOk r P → P
+when_ok P (Ok x) is p = p
+when_ok P (Err x) is p = absurd cc
+
+-- what follows where there is no error
+pub then_ok : (P Q : Type 0) (r : Result (Unit {0}) NoMemory) → (P → Q) → OnOk r P → OnOk r Q
+then_ok P Q (Ok x) so p = so p
+then_ok P Q (Err x) so p = p
+
+-- a command that can be run still can be when its back references are replaced
+pub replaced_runs : (modules : ℕ) (made : List (Option Token)) (command : Command) → CanRun modules command → CanRun modules (replaced made command)
+unfolding replaced
+replaced_runs modules made (commands.Query m q) can = can
+replaced_runs modules made (commands.Edit m e) can = can
+replaced_runs modules made (commands.Resolve m t) can = can
+replaced_runs modules made (commands.Attribute m t) can = can
+
+module _ (modules : List Shared) (k : ℕ) (command : Command) (said more : List Said) (old new : List (Option Held)) where
+  pub said_answer : (r : Result Answer NoMemory) → IsToldAnswer r said more
+      → IfOk r (λ a. IsPassStep modules k (length said) command (saids.Query a) old new) → IsSaidStep modules k command said more old new
+  said_answer (Ok a) told step = record { a = saids.Query a; more_is = told; step = step }
+  said_answer (Err e) told step = absurd told
+
+  pub said_edit : (r : Result Edited NoMemory) → IsToldEdit r said more
+      → IfOk r (λ x. IsPassStep modules k (length said) command (saids.Edit x) old new) → IsSaidStep modules k command said more old new
+  said_edit (Ok x) told step = record { a = saids.Edit x; more_is = told; step = step }
+  said_edit (Err e) told step = absurd told
+
+pub none_done : (given : List Command) → AreDoneTo given [] [] [] 0
+none_done given = record { as_many = refl; answered = refl; replaced = λ c x y at is. absurd cc; made_is = refl }
+
+-- a command more is done
+pub done_more : (given done : List Command) (said : List Said) (made : List (Option Token)) (n : ℕ) (asked : Command) (a : Said)
+    → AreDoneTo given done said made n → slice_get given n ≡ Some asked
+    → AreDoneTo given (done ++ replaced made asked ∷ []) (said ++ a ∷ []) (made ++ token_made a ∷ []) (n + 1)
+done_more given done said made n asked a all at = record {
+  as_many = (let many = all.as_many in omega (arith, many, length-append done (replaced made asked ∷ [])));
+  answered = (let many = all.answered in omega (arith, many, length-append said (a ∷ [])));
+  replaced = each;
+  made_is = ap (λ l. l ++ token_made a ∷ []) all.made_is ∙ sym (map-append token_made said (a ∷ []));
+}
+  where
+    each : (c : ℕ) (x y : Command) → slice_get given c ≡ Some x → slice_get (done ++ replaced made asked ∷ []) c ≡ Some y
+        → y ≡ replaced (map token_made (take c (said ++ a ∷ []))) x
+    each c x y there is =
+        let many = all.as_many in
+        let answered = all.answered in
+        dite (dec_le (suc c) n)
+        (λ less.
+        all.replaced c x y there (sym (front_item done (replaced made asked ∷ []) c (omega (arith, many))) ∙ is)
+        ∙ ap (λ l. replaced (map token_made l) x) (sym (take-append-le c said (a ∷ []) (omega (arith, answered)))))
+        (λ past.
+        let last = one_behind done (replaced made asked) y c (omega (arith, many)) is in
+        let here : c ≡ n = last.1 ∙ many in
+        let same : asked ≡ x = same_at given n asked x at (ap (slice_get given) (sym here) ∙ there) in
+        let front : take c (said ++ a ∷ []) ≡ said = ap (λ i. take i (said ++ a ∷ [])) (here ∙ sym answered) ∙ take-append_seam said (a ∷ []) in
+        last.0 ∙ ap (replaced made) same ∙ ap (λ l. replaced l x) (all.made_is ∙ ap (map token_made) (sym front)))
+
+-- all are done
+pub all_done : (given done : List Command) (said : List Said) (made : List (Option Token)) (n : ℕ) → n ≡ length given → AreDoneTo given done said made n → AreDone given done said
+all_done given done said made n whole all = record { as_many = all.as_many ∙ whole; answered = all.answered ∙ whole; replaced = all.replaced }

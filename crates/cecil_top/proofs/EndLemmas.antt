@@ -1,0 +1,103 @@
+-- Passes out of all actors, and the end of one module.
+use Rattle.std.proofs.Common.{◌≡◌, ◌≢◌, refl, sym, ◌∙◌, ap, subst, ℕ, suc, ◌+◌, ◌<◌, ◌≤◌, ◌⊎◌, inl, inr, List, [], ◌∷◌, ◌++◌, Option, Some, None, length, length-append, slice_get, slice_set, arith, All, Any}
+use mathlib.Core.List.{IsPrefix}
+use mathlib.Core.Logic.{dite}
+use native.Mathlib.Decide.{dec_le}
+use Rattle.std.proofs.lemmas.List.{length-set}
+use Rattle.std.proofs.lemmas.Option.{get_or_from_slice_get, slice_get_within}
+use Rattle.turn_lock.specs.Passes.{AreAllOf, IsPassOf}
+use Rattle.turn_lock.specs.Views.{own}
+use Rattle.lazy_core.specs.History.{entry_caller}
+use Rattle.lazy_core.specs.Legal.{Legal}
+use Rattle.lazy_core.specs.Slots.{CoreState}
+use Rattle.shared_module.proofs.PrefixLemmas.{one_behind}
+use Rattle.cecil_top.specs.Explained.{ExplainsCaller}
+use Rattle.cecil_top.specs.declared.actor.Actor.{Actor}
+use Rattle.cecil_top.specs.inner.Ends.{AreGiven, AreWithout, CanClose, IsClosed, without_pass}
+use Rattle.cecil_top.specs.inner.Passes.{Held, Shared}
+use Rattle.cecil_top.proofs.CallerLemmas.{explains_longer}
+use Rattle.cecil_top.proofs.PlaceLemmas.{all_at, at_all, front_item, item_at, other_item, same_at, same_or_not, set_item}
+
+pub none_given : (m : ℕ) (actors : List Actor) → AreGiven m actors [] 0
+none_given m actors = record { as_many = refl; each = λ i a p at is. absurd cc }
+
+-- an actor more gave its pass
+pub given_more : (m n : ℕ) (actors : List Actor) (passes : List Held) (a : Actor) (p : Held) → AreGiven m actors passes n → slice_get actors n ≡ Some a
+    → slice_get a.passes m ≡ Some (Some p) → AreGiven m actors (passes ++ p ∷ []) (n + 1)
+given_more m n actors passes a p g at is = record {
+  as_many = (let many = g.as_many in omega (arith, many, length-append passes (p ∷ [])));
+  each = λ i x q there now.
+      dite (dec_le (suc i) (length passes))
+      (λ less. g.each i x q there (sym (front_item passes (p ∷ []) i (omega arith)) ∙ now))
+      (λ past.
+      let last = one_behind passes p q i (omega arith) now in
+      let same = same_at actors n a x at (ap (slice_get actors) (sym (last.1 ∙ g.as_many)) ∙ there) in
+      subst (λ y. slice_get y.passes m ≡ Some (Some q)) same (is ∙ ap (λ y. Some (Some y)) (sym last.0)));
+}
+
+pub none_without : (m : ℕ) (actors : List Actor) → AreWithout m actors actors 0
+none_without m actors = record { as_many = refl; before = λ i a x less at is. absurd (omega arith); behind = λ i l. refl }
+
+-- an actor more is without its pass
+pub without_more : (m n : ℕ) (old mid new : List Actor) (a : Actor) → AreWithout m old mid n → slice_get mid n ≡ Some a → new ≡ slice_set mid n (without_pass m a)
+    → AreWithout m old new (n + 1)
+without_more m n old mid new a w at is = record {
+  as_many = ap length is ∙ length-set mid n (without_pass m a) ∙ w.as_many;
+  before = λ i x y less was now. by_place i x y less was now (same_or_not i n);
+  behind = λ i l. ap (λ xs. slice_get xs i) is ∙ other_item mid n i (without_pass m a) (λ e. absurd (omega (arith, e))) ∙ w.behind i (omega arith);
+}
+  where
+    by_place : (i : ℕ) (x y : Actor) → i < n + 1 → slice_get old i ≡ Some x → slice_get new i ≡ Some y → (i ≡ n) ⊎ (i ≢ n) → y ≡ without_pass m x
+    by_place i x y less was now (inl e) =
+        let within = slice_get_within mid n a at in
+        let new_is = same_at new n (without_pass m a) y (ap (λ xs. slice_get xs n) is ∙ set_item mid n (without_pass m a) within) (ap (slice_get new) (sym e) ∙ now) in
+        let old_is = same_at old n a x (sym (w.behind n (omega arith)) ∙ at) (ap (slice_get old) (sym e) ∙ was) in
+        sym new_is ∙ ap (without_pass m) old_is
+    by_place i x y less was now (inr o) =
+        w.before i x y (omega (arith, o, less)) was (sym (other_item mid n i (without_pass m a) o) ∙ ap (λ xs. slice_get xs i) (sym is) ∙ now)
+
+module _ (l : Shared) (m : ℕ) (actors : List Actor) (passes : List Held) (can : CanClose l m actors) (g : AreGiven m actors passes (length actors)) where
+  pass_of : (i : ℕ) (a : Actor) (p : Held) → slice_get actors i ≡ Some a → slice_get passes i ≡ Some p → IsPassOf l p × (p.number ≡ i)
+  pass_of i a p at is = can.passes i a (Some p) at (g.each i a p at is)
+
+  -- the passes that the actors gave are all passes of the module
+  pub are_all : AreAllOf l passes
+  are_all = (at_all (IsPassOf l) passes of_module, each_number)
+    where
+      of_module : (i : ℕ) (p : Held) → slice_get passes i ≡ Some p → IsPassOf l p
+      of_module i p is =
+          let many = g.as_many in
+          let within = slice_get_within passes i p is in
+          let a = item_at actors i (omega (arith, many, within)) in
+          (pass_of i a.0 p a.1 is).0
+
+      each_number : (k : ℕ) → k < l.callers → Any (λ p. p.number ≡ k) passes
+      each_number k less =
+          let many = g.as_many in
+          let callers = can.callers in
+          let a = item_at actors k (omega (arith, callers, less)) in
+          let here : k < length passes = omega (arith, many, callers, less) in
+          let p = item_at passes k here in
+          (k, p.0, here, get_or_from_slice_get passes k p.0 p.0 p.1, (pass_of k a.0 p.0 a.1 p.1).1)
+
+  pub is_closed : (core : CoreState) → core.bytes ≡ l.base → Legal core.bytes core.history → All (λ p. IsPrefix p.seen core.history) passes
+      → All (λ p. own entry_caller p.number core.history ≡ own entry_caller p.number p.seen) passes
+      → All (λ e. entry_caller e < l.callers) core.history → IsClosed l m actors core
+  is_closed core bytes legal seen mine callers = record {
+    bytes = bytes;
+    legal = legal;
+    callers = subst (λ n. All (λ e. entry_caller e < n) core.history) can.callers callers;
+    explained = explained;
+  }
+    where
+      explained : (i : ℕ) (a : Actor) → slice_get actors i ≡ Some a → ExplainsCaller core.bytes i m a.commands a.said core.history
+      explained i a at =
+          let many = g.as_many in
+          let within = slice_get_within actors i a at in
+          let p = item_at passes i (omega (arith, many, within)) in
+          let its = pass_of i a p.0 at p.1 in
+          let front = all_at (λ (q : Held). IsPrefix q.seen core.history) passes seen i p.0 p.1 in
+          let same = subst (λ k. own entry_caller k core.history ≡ own entry_caller k p.0.seen) its.1
+              (all_at (λ (q : Held). own entry_caller q.number core.history ≡ own entry_caller q.number q.seen) passes mine i p.0 p.1) in
+          subst (λ b. ExplainsCaller b i m a.commands a.said core.history) (sym bytes)
+          (explains_longer l.base i m a.commands a.said p.0.seen (can.explained i a (Some p.0) at (g.each i a p.0 at p.1)) core.history front same)

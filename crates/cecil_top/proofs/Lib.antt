@@ -1,0 +1,11 @@
+pub mod PlaceLemmas
+pub mod AnswerLemmas
+pub mod CallerLemmas
+pub mod StepLemmas
+pub mod PassLemmas
+pub mod SoFarLemmas
+pub mod ActorLemmas
+pub mod OpenLemmas
+pub mod EndLemmas
+pub mod CloseLemmas
+pub mod RunLemmas

@@ -1,0 +1,5 @@
+pub mod Steps
+pub mod Passes
+pub mod Actors
+pub mod Ends
+pub mod Opens

@@ -1,0 +1,21 @@
+//! A run of many actors over many modules. Each actor does its commands in order, in a thread of its own where one can
+//! be started; the modules are shared. What comes of it is a record: the history of each module, and what was answered
+//! to each command with the point of the history at which it is true. The record explains the run by itself, whatever
+//! the schedule was.
+#![tactic(auto)]
+
+mod actor;
+mod closing;
+mod command;
+mod opening;
+mod passes;
+mod record;
+mod replacing;
+mod run;
+mod runnable;
+mod said;
+
+pub use record::{ActorRecord, RunRecord};
+pub use run::run_job;
+pub use runnable::can_run;
+pub use said::Said;

@@ -1,0 +1,73 @@
+ghost use Rattle.std.specs.Prelude.{◌≡◌, ℕ, Some, slice_get, length, ◌<◌, OnOk};
+ghost use Rattle.cecil_top.specs.Commands.{row_made, token_made};
+ghost use Rattle.cecil_top.specs.declared.said.Said.{Said};
+ghost use Rattle.cecil_top.specs.inner.Passes.{IsToldAnswer, IsToldEdit};
+
+use cil_base::{List, NoMemory, Token};
+use graph_edits::Outcome;
+use shared_module::{Answer, Edited};
+
+/// What was answered to a command, with the point of its module's history at which it is true.
+#[derive(Drop)]
+pub enum Said {
+    /// To a query.
+    Query(Answer),
+    /// To an edit.
+    Edit(Edited),
+}
+
+/// The row that an edit made.
+fn row_made(outcome: &Outcome) -> Option<Token>
+    ensures { result ≡ row_made outcome.now }
+{
+    match outcome {
+        Outcome::Done(made) => *made,
+        Outcome::Refused(_) => None,
+    }
+}
+
+impl Said {
+    /// The token of the row that the command made, if it made one.
+    pub fn token_made(&self) -> Option<Token>
+        ensures { result ≡ token_made self.now }
+    {
+        match self {
+            Said::Query(_) => None,
+            Said::Edit(edited) => row_made(&edited.outcome),
+        }
+    }
+}
+
+/// The token of the row that the command of this number made, if it made one.
+pub(crate) fn token_made_at(said: &[Said], place: u32) -> Option<Token>
+    requires { place < length said.now }
+    ensures { (a : Said) → slice_get said.now place ≡ Some a → result ≡ token_made a }
+{
+    said[place as usize].token_made()
+}
+
+/// Puts an answer, if there is one, behind what was said.
+pub(crate) fn tell_answer(
+    said: &mut List<Said>,
+    answer: Result<Answer, NoMemory>,
+) -> Result<(), NoMemory>
+    ensures { OnOk result (IsToldAnswer answer said.old said.new) }
+{
+    match answer {
+        Ok(answer) => said.push(Said::Query(answer)),
+        Err(NoMemory) => Err(NoMemory),
+    }
+}
+
+/// Puts what an edit came to, if it came to something, behind what was said.
+pub(crate) fn tell_edit(
+    said: &mut List<Said>,
+    edited: Result<Edited, NoMemory>,
+) -> Result<(), NoMemory>
+    ensures { OnOk result (IsToldEdit edited said.old said.new) }
+{
+    match edited {
+        Ok(edited) => said.push(Said::Edit(edited)),
+        Err(NoMemory) => Err(NoMemory),
+    }
+}
