@@ -18,8 +18,9 @@ use Rattle.cecil_top.specs.Runnable.{CanRun}
 use Rattle.cecil_top.specs.declared.said.Said.{Said}
 use Rattle.cecil_top.specs.declared.said.Said.TheVariants as saids
 use Rattle.cecil_top.specs.inner.Actors.{AreDoneTo}
-use Rattle.cecil_top.specs.inner.Passes.{Held, IsPassStep, IsSaidStep, IsToldAnswer, IsToldEdit, Shared}
-use Rattle.cecil_top.proofs.PlaceLemmas.{front_item, same_at}
+use Rattle.cecil_top.specs.inner.Passes.{ExplainsSoFar, HasPasses, Held, IsPassStep, IsSaidStep, IsToldAnswer, IsToldEdit, Shared}
+use Rattle.cecil_top.proofs.PlaceLemmas.{front_item, last_item, same_at}
+use Rattle.cecil_top.proofs.SoFarLemmas.{so_far_more}
 
 -- what holds where there is no error
 pub when_ok : (P : Type 0) (r : Result (Unit {0}) NoMemory) → is_err r ≡ false → OnOk r P → P
@@ -79,6 +80,33 @@ done_more given done said made n asked a all at = record {
         let same : asked ≡ x = same_at given n asked x at (ap (slice_get given) (sym here) ∙ there) in
         let front : take c (said ++ a ∷ []) ≡ said = ap (λ i. take i (said ++ a ∷ [])) (here ∙ sym answered) ∙ take-append_seam said (a ∷ []) in
         last.0 ∙ ap (replaced made) same ∙ ap (λ l. replaced l x) (all.made_is ∙ ap (map token_made) (sym front)))
+
+-- the command that was put behind the others
+pub next_is : (cs more : List Command) (n : ℕ) (command x : Command) → length cs ≡ n → more ≡ cs ++ command ∷ [] → slice_get more n ≡ Some x → command ≡ x
+next_is cs more n command x many is at =
+    same_at more n command x
+    (ap (λ l. slice_get l n) is ∙ ap (slice_get (cs ++ command ∷ [])) (sym many) ∙ last_item cs command) at
+
+module _ (modules : List Shared) (k : ℕ) (given cs : List Command) (said : List Said) (made : List (Option Token)) (n : ℕ) (old new : List (Option Held))
+    (has : HasPasses modules k old) (done : AreDoneTo given cs said made n) (far : ExplainsSoFar modules k cs said old) where
+  -- the next command is done, and what it made is told
+  pub next_done : (asked x : Command) (cs_new : List Command) (said_new : List Said) (made_new : List (Option Token)) (t : Option Token)
+      → slice_get given n ≡ Some asked → cs_new ≡ cs ++ replaced made asked ∷ [] → slice_get cs_new n ≡ Some x → IsSaidStep modules k x said said_new old new
+      → ((a : Said) → slice_get said_new n ≡ Some a → t ≡ token_made a) → made_new ≡ made ++ t ∷ []
+      → AreDoneTo given cs_new said_new made_new (n + 1) × ExplainsSoFar modules k cs_new said_new new
+  next_done asked x cs_new said_new made_new t at cs_is there s tells made_is =
+      let command_is = next_is cs cs_new n (replaced made asked) x done.as_many cs_is there in
+      let step = subst (λ y. IsPassStep modules k (length said) y s.a old new) (sym command_is) s.step in
+      let told : slice_get said_new n ≡ Some s.a =
+          ap (λ l. slice_get l n) s.more_is ∙ ap (slice_get (said ++ s.a ∷ [])) (sym done.answered) ∙ last_item said s.a in
+      let row : made_new ≡ made ++ token_made s.a ∷ [] = made_is ∙ ap (λ r. made ++ r ∷ []) (tells s.a told) in (
+        subst (λ l. AreDoneTo given l said_new made_new (n + 1)) (sym cs_is)
+            (subst (λ l. AreDoneTo given (cs ++ replaced made asked ∷ []) l made_new (n + 1)) (sym s.more_is)
+            (subst (λ l. AreDoneTo given (cs ++ replaced made asked ∷ []) (said ++ s.a ∷ []) l (n + 1)) (sym row) (done_more given cs said made n asked s.a done at))),
+        subst (λ l. ExplainsSoFar modules k l said_new new) (sym cs_is)
+            (subst (λ l. ExplainsSoFar modules k (cs ++ replaced made asked ∷ []) l new) (sym s.more_is)
+            (so_far_more modules k cs said old new (replaced made asked) s.a has (done.as_many ∙ sym done.answered) far step)),
+      )
 
 -- all are done
 pub all_done : (given done : List Command) (said : List Said) (made : List (Option Token)) (n : ℕ) → n ≡ length given → AreDoneTo given done said made n → AreDone given done said

@@ -136,7 +136,7 @@ module _ (b : List ℕ) (k m : ℕ) (cs : List Command) (said : List Said) (s : 
 
       stands_now : (i : ℕ) (e : Entry) → length s ≤ i → slice_get h i ≡ Some e → entry_caller e ≡ k → StandsBy b m cs (said ++ a ∷ []) (take i h) e
       stands_now i e past is mine =
-          let made = step.own i e past is mine in
+          let made = step.made i e past is mine in
           let its : (entry_by e).command ≡ length said = ap (λ (y : By). y.command) made.0 in
           let within = slice_get_within h i e is in
           let long : length (take i h) ≡ i = length-take-le i h (omega arith) in

@@ -1,14 +1,23 @@
 -- Passes that are taken out, and put back.
-use Rattle.std.proofs.Common.{◌≡◌, ◌≢◌, refl, sym, ◌∙◌, ap, subst, ℕ, ◌<◌, ◌≤◌, ◌⊎◌, inl, inr, List, Option, Some, None, length, slice_get, slice_set, get_or, arith}
+use Rattle.std.proofs.Common.{◌≡◌, ◌≢◌, refl, sym, ◌∙◌, ap, subst, ℕ, ◌<◌, ◌≤◌, ◌⊎◌, inl, inr, List, Option, Some, None, Result, Ok, Err, IfOk, length, slice_get, slice_set, arith}
 use Rattle.std.proofs.lemmas.List.{length-set}
-use Rattle.std.proofs.lemmas.Option.{slice_get-get_or, slice_get_within}
+use Rattle.std.proofs.lemmas.Option.{slice_get_within}
+use Rattle.cil_base.specs.declared.no_memory.NoMemory.{NoMemory}
 use Rattle.job_text.specs.declared.command.Command.{Command}
-use Rattle.shared_module.specs.Adds.{by_of}
+use Rattle.job_text.specs.declared.command.Command.TheVariants as commands
+use Rattle.node_model.specs.declared.edit.Edit.{Edit}
+use Rattle.node_model.specs.declared.query.Query.{Query}
+use Rattle.shared_module.specs.Adds.{AddsFills, IsForEdit, IsForQuery, by_of}
+use Rattle.shared_module.specs.Answers.{EndsWithDone, IsAnswer, IsEdited, before_done}
+use Rattle.shared_module.specs.declared.ask.Answer.{Answer}
+use Rattle.shared_module.specs.declared.edit.Edited.{Edited}
 use Rattle.cecil_top.specs.Commands.{home_of}
 use Rattle.cecil_top.specs.declared.said.Said.{Said}
+use Rattle.cecil_top.specs.declared.said.Said.TheVariants as saids
 use Rattle.cecil_top.specs.inner.Passes.{HasPassAt, HasPasses, Held, IsPassFor, IsPassStep, IsThere, Shared, seen_by}
 use Rattle.cecil_top.specs.inner.Steps.{IsStep}
 use Rattle.cecil_top.proofs.PlaceLemmas.{item_at, other_item, same_at, same_or_not, set_item}
+use Rattle.cecil_top.proofs.StepLemmas.{step_asked, step_edited}
 
 -- an actor with its passes has one of each module
 pub pass_there : (modules : List Shared) (k : ℕ) (passes : List (Option Held)) → HasPasses modules k passes → (m : ℕ) → m < length modules → HasPassAt passes m
@@ -60,3 +69,21 @@ module _ (modules : List Shared) (k m : ℕ) (old mid new : List (Option Held)) 
         (subst (λ y. IsStep l.base (by_of k n 0) command a (seen_by o) (seen_by y)) same_new
         (subst (λ y. IsStep l.base (by_of k n 0) command a (seen_by y) q.seen) same_old step));
   }
+
+  module _ (number : p.number ≡ k) (n : ℕ) where
+    pub query_step : (query : Query) (r : Result Answer NoMemory) → AddsFills (by_of p.number n 0) (IsForQuery query) p.seen q.seen
+        → IfOk r (IsAnswer l.base query q.seen) → IfOk r (λ a. IsPassStep modules k n (commands.Query m query) (saids.Query a) old new)
+    query_step query (Ok a) adds is =
+        pass_step n (commands.Query m query) (saids.Query a) refl
+        (step_asked l.base (by_of k n 0) m query a p.seen q.seen (subst (λ j. AddsFills (by_of j n 0) (IsForQuery query) p.seen q.seen) number adds) is)
+    query_step query (Err e) adds is = tt
+
+    pub edit_step : (e : Edit) (r : Result Edited NoMemory) → AddsFills (by_of p.number n 0) (IsForEdit l.base e) p.seen (before_done q.seen r)
+        → EndsWithDone (by_of p.number n 0) e q.seen r → IfOk r (IsEdited l.base e q.seen)
+        → IfOk r (λ x. IsPassStep modules k n (commands.Edit m e) (saids.Edit x) old new)
+    edit_step e (Ok x) adds done is =
+        pass_step n (commands.Edit m e) (saids.Edit x) refl
+        (step_edited l.base (by_of k n 0) m e p.seen q.seen x
+        (subst (λ j. AddsFills (by_of j n 0) (IsForEdit l.base e) p.seen (before_done q.seen (Ok x))) number adds)
+        (subst (λ j. EndsWithDone (by_of j n 0) e q.seen (Ok x)) number done) is)
+    edit_step e (Err x) adds done is = tt

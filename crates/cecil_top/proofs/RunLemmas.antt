@@ -23,30 +23,31 @@ abbrev pub bytes_of : List CoreState → List (List ℕ)
 bytes_of cores = map (λ (core : CoreState). core.bytes) cores
 
 module _ (cores : List CoreState) (given : List (List Command)) (runnable : AreRunnable (length cores) given)
-    (modules : List Shared) (a1 : List Actor) (opened : AreOpened cores (length given) modules (length cores)) (new : AllAreNew modules given a1 (length given)) where
+    (n : ℕ) (count : length given ≡ n) (modules : List Shared) (a1 : List Actor) (opened : AreOpened cores n modules (length cores))
+    (new : AllAreNew modules given a1 n) where
   new_at : (i : ℕ) (a : Actor) → slice_get a1 i ≡ Some a → (cs : List Command) × (slice_get given i ≡ Some cs) × IsNew modules i cs a
   new_at i a is =
       let many = new.as_many in
       let within = slice_get_within a1 i a is in
-      let cs = item_at given i (omega (arith, many, within)) in
+      let cs = item_at given i (omega (arith, many, count, within)) in
       (cs.0, cs.1, new.each i cs.0 a cs.1 is)
 
   is_ready : (i : ℕ) (a : Actor) → slice_get a1 i ≡ Some a → IsReady modules a
   is_ready i a is =
-      let n = new_at i a is in
+      let made = new_at i a is in
       let many = opened.as_many in
       record {
         passes = record {
-          as_many = n.2.passes.as_many;
-          each = λ m l p at there. subst (IsPassFor l a.number) (sym (n.2.passes.each m l p at there)) ((refl, refl), sym n.2.number);
+          as_many = made.2.passes.as_many;
+          each = λ m l p at there. subst (IsPassFor l a.number) (sym (made.2.passes.each m l p at there)) ((refl, refl), sym made.2.number);
         };
-        fit = subst (FitModules modules) (sym n.2.given)
-            (all_at (λ (cs : List Command). length cs ≤ 4096) given runnable.commands_few i n.0 n.1,
-            subst (λ k. All (CanRun k) n.0) (sym many) (all_at (All (CanRun (length cores))) given runnable.each i n.0 n.1));
-        none_done = n.2.none_done;
-        none_said = n.2.none_said;
+        fit = subst (FitModules modules) (sym made.2.given)
+            (all_at (λ (cs : List Command). length cs ≤ 4096) given runnable.commands_few i made.0 made.1,
+            subst (λ k. All (CanRun k) made.0) (sym many) (all_at (All (CanRun (length cores))) given runnable.each i made.0 made.1));
+        none_done = made.2.none_done;
+        none_said = made.2.none_said;
         so_far = λ m l p at there.
-            subst (λ q. ExplainsCaller l.base a.number m [] [] (seen_by q)) (sym (n.2.passes.each m l p at there)) (explains_none l.base a.number m);
+            subst (λ q. ExplainsCaller l.base a.number m [] [] (seen_by q)) (sym (made.2.passes.each m l p at there)) (explains_none l.base a.number m);
       }
 
   pub all_ready : All (IsReady modules) a1
@@ -55,9 +56,9 @@ module _ (cores : List CoreState) (given : List (List Command)) (runnable : AreR
   module _ (a2 : List Actor) (ran : AllHaveRun modules a1 a2) (none_short : All (λ (a : Actor). a.short ≡ false) a2) where
     -- an actor that has done all
     record IsThrough (i : ℕ) (a : Actor) : Type 0 where
-      passes : HasPasses modules i a.passes
-      done : (cs : List Command) → slice_get given i ≡ Some cs → AreDone cs a.commands a.said
-      explained : ExplainsSoFar modules i a.commands a.said a.passes
+      pub passes : HasPasses modules i a.passes
+      pub done : (cs : List Command) → slice_get given i ≡ Some cs → AreDone cs a.commands a.said
+      pub explained : ExplainsSoFar modules i a.commands a.said a.passes
 
     through : (i : ℕ) (a : Actor) → slice_get a2 i ≡ Some a → IsThrough i a
     through i a is =
@@ -65,8 +66,8 @@ module _ (cores : List CoreState) (given : List (List Command)) (runnable : AreR
         let within = slice_get_within a2 i a is in
         let x = item_at a1 i (omega (arith, many, within)) in
         let r = ran.each i x.0 a x.1 is in
-        let n = new_at i x.0 x.1 in
-        let number : a.number ≡ i = r.number ∙ n.2.number in
+        let made = new_at i x.0 x.1 in
+        let number : a.number ≡ i = r.number ∙ made.2.number in
         let long = all_at (λ (y : Actor). y.short ≡ false) a2 none_short i a is in
         record {
           passes = subst (λ k. HasPasses modules k a.passes) number r.passes;
@@ -117,7 +118,7 @@ module _ (cores : List CoreState) (given : List (List Command)) (runnable : AreR
           sym end.2 ∙ c.2.bytes ∙ (opened.each m first.0 c.0 first.1 c.1).0 ∙ first.2)
 
       actors_many : length a2 ≡ length given
-      actors_many = ran.as_many ∙ new.as_many
+      actors_many = ran.as_many ∙ new.as_many ∙ sym count
 
       pub run_explains : Explains (bytes_of cores) given (record { cores = ends; actors = map record_of a3 })
       run_explains = record {

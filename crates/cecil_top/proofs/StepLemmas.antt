@@ -85,7 +85,7 @@ step_asked b by m q a s h adds is =
     let whole = ap (λ n. take n h) is.at ∙ take-length h in
     record {
       later = adds.later;
-      own = λ i e past at mine.
+      made = λ i e past at mine.
           fill_is_added b by (commands.Query m q) (IsForQuery q) (λ g why w. w) (length s) i (take i h) e (adds.own i e past at mine);
       point = is.at;
       answer = subst (λ g. IsAnswer b q g a) (sym whole) is;
@@ -94,10 +94,10 @@ step_asked b by m q a s h adds is =
 
 -- what an edit adds, whether it is done or refused
 record AddsEdit (b : List ℕ) (by : By) (m : ℕ) (e : EditOf) (s h : List Entry) (o : Outcome) : Type 0 where
-  later : IsPrefix s h
-  own : (i : ℕ) (x : Entry) → length s ≤ i → slice_get h i ≡ Some x → entry_caller x ≡ by.caller
+  pub later : IsPrefix s h
+  pub made : (i : ℕ) (x : Entry) → length s ≤ i → slice_get h i ≡ Some x → entry_caller x ≡ by.caller
       → IsAdded b by (commands.Edit m e) (length s) i (take i h) x
-  edited : edits (own entry_caller by.caller h) ≡ edits (own entry_caller by.caller s) ++ if_done e o
+  pub edited : edits (own entry_caller by.caller h) ≡ edits (own entry_caller by.caller s) ++ if_done e o
 
 module _ (b : List ℕ) (by : By) (m : ℕ) (e : EditOf) (s h : List Entry) where
   fill_of_edit : (g : List Entry) (i : ℕ) (x : Entry) → IsFillFor by (length s) (IsForEdit b e) (take i g) x → IsAdded b by (commands.Edit m e) (length s) i (take i g) x
@@ -106,12 +106,12 @@ module _ (b : List ℕ) (by : By) (m : ℕ) (e : EditOf) (s h : List Entry) wher
   adds_edit : (o : Outcome) → AddsFills by (IsForEdit b e) s (answered_by h o) → LastIsDone by e h o → AddsEdit b by m e s h o
   adds_edit (Refused r) adds last = record {
     later = adds.later;
-    own = λ i x past at mine. fill_of_edit h i x (adds.own i x past at mine);
+    made = λ i x past at mine. fill_of_edit h i x (adds.own i x past at mine);
     edited = fills_no_edits by (IsForEdit b e) s h adds ∙ sym (append-nil (edits (own entry_caller by.caller s)));
   }
   adds_edit (Done made) adds last = record {
     later = begins_further s f h adds.later more;
-    own = λ i x past at mine. dite (dec_le (suc i) (length f))
+    made = λ i x past at mine. dite (dec_le (suc i) (length f))
         (λ less.
         subst (λ g. IsAdded b by (commands.Edit m e) (length s) i g x) (sym (same_front f h i more (omega arith)))
         (fill_of_edit f i x (adds.own i x past (sym (same_item f h i more (omega arith)) ∙ at) mine)))
@@ -135,7 +135,7 @@ module _ (b : List ℕ) (by : By) (m : ℕ) (e : EditOf) (s h : List Entry) wher
       let parts = adds_edit x.outcome adds last in
       record {
         later = parts.later;
-        own = parts.own;
+        made = parts.made;
         point = is.at;
         answer = subst (λ g. IsEdited b e g x × LastIsDone by e g x.outcome) (sym whole) (is, last);
         edited = parts.edited;

@@ -1,5 +1,5 @@
 //! One command of one actor.
-ghost use Rattle.std.specs.Prelude.{◌<◌, IfOk, OnOk, length};
+ghost use Rattle.std.specs.Prelude.{◌≡◌, ◌<◌, IfOk, OnOk, length};
 ghost use Rattle.job_text.specs.declared.command.Command.TheVariants as commands;
 ghost use Rattle.cecil_top.specs.Runnable.{CanRun};
 ghost use Rattle.cecil_top.specs.declared.said.Said.TheVariants as saids;

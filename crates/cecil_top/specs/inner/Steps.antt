@@ -13,7 +13,7 @@ use Rattle.cecil_top.specs.declared.said.Said.{Said}
 
 pub record IsStep (b : List ℕ) (by : By) (command : Command) (a : Said) (before after : List Entry) : Type 0 where
   pub later : IsPrefix before after
-  pub own :
+  pub made :
       (i : ℕ) (e : Entry) → length before ≤ i → slice_get after i ≡ Some e → entry_caller e ≡ by.caller
       → (entry_by e ≡ by) × IsEntryOf b command (take i after) e × (length before ≤ entry_begun i e)
   pub point : point_of a ≡ length after

@@ -1,0 +1,17 @@
+use Rattle.std.proofs.Common.{◌≡◌, ◌∙◌, sym, refl}
+use Rattle.cecil_top.specs.Explains.{AreDone}
+use Rattle.cecil_top.specs.inner.Passes.{ExplainsSoFar}
+use Rattle.cecil_top.proofs.ActorLemmas.{when_ok}
+use Rattle.cecil_top.proofs.actor.do_actor.Goals as goal
+
+pub returns : goal.returns
+returns g c =
+    let a = c.args.actor.now in
+    let d = c.do_commands-done in
+    record {
+      number = refl;
+      passes = d.ensures.passes;
+      done = λ long. when_ok (AreDone a.given d.new.commands d.new.said) d.result (sym c.is_err-actor.ensures.value ∙ long) d.ensures.done;
+      explained = λ long. when_ok (ExplainsSoFar c.args.modules.now a.number d.new.commands d.new.said d.new.passes) d.result
+          (sym c.is_err-actor.ensures.value ∙ long) d.ensures.explained;
+    }
