@@ -9,3 +9,4 @@ pub mod OpenLemmas
 pub mod EndLemmas
 pub mod CloseLemmas
 pub mod RunLemmas
+pub mod SendLemmas

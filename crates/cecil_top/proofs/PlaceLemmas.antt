@@ -1,6 +1,8 @@
 -- Items of lists by their places.
-use Rattle.std.proofs.Common.{◌≡◌, ◌≢◌, refl, sym, ◌∙◌, ap, subst, ℕ, zero, suc, ◌+◌, ◌<◌, ◌≤◌, ◌⊎◌, inl, inr, List, [], ◌∷◌, ◌++◌, Option, Some, length, length-map, map, drop, option_map, slice_get, slice_set, slice_index_or, get_or, arith, All}
+use Rattle.std.proofs.Common.{◌≡◌, ◌≢◌, refl, sym, ◌∙◌, ap, subst, ℕ, zero, suc, ◌+◌, ◌<◌, ◌≤◌, ◌⊎◌, inl, inr, List, [], ◌∷◌, ◌++◌, Option, Some, length, map, drop, take, option_map, slice_get, slice_set, slice_index_or, get_or, arith, All}
 use Rattle.std.specs.Prelude.{remove}
+use Rattle.std.proofs.lemmas.List.{length-map, map-append, take_all}
+use Rattle.std.proofs.lemmas.List.Elements.{All-more}
 use Rattle.std.proofs.lemmas.Option.{get_or_from_slice_get, slice_get-get_or, slice_get-map, slice_get_read, slice_get_within}
 use Rattle.shared_module.proofs.PrefixLemmas.{same_item}
 
@@ -81,6 +83,20 @@ module _ {A : Type 0} where
   pub at_all : (P : A → Type 0) (xs : List A) → ((i : ℕ) (x : A) → slice_get xs i ≡ Some x → P x) → All P xs
   at_all P xs each i d l = each i (slice_index_or xs i d) (slice_get-get_or xs i d l)
 
+  -- one item more, and all of them
+  pub all_more : (P : A → Type 0) (xs : List A) (i : ℕ) (x : A) → i < length xs → x ≡ get_or xs i x → All P (take i xs) → P x → All P (take (i + 1) xs)
+  all_more P xs i x less is all p = All-more P xs i x less all (subst P is p)
+
+  pub all_whole : (P : A → Type 0) (xs : List A) (n : ℕ) → length xs ≤ n → All P (take n xs) → All P xs
+  all_whole P xs n less all = subst (All P) (take_all n xs less) all
+
+  take_more : (xs : List A) (n : ℕ) (x : A) → slice_get xs n ≡ Some x → take (n + 1) xs ≡ take n xs ++ x ∷ []
+  take_more [] n x is = absurd cc
+  take_more (y ∷ xs) zero x is = ap (λ z. z ∷ []) (same_at (y ∷ xs) 0 y x refl is)
+  take_more (y ∷ xs) (suc n) x is =
+      let next : suc n + 1 ≡ suc (n + 1) = omega arith in
+      ap (λ k. take k (y ∷ xs)) next ∙ ap (λ l. y ∷ l) (take_more xs n x is)
+
   -- lists with the same items in the same places are the same
   pub same_items : (xs ys : List A) → length xs ≡ length ys → ((i : ℕ) (x y : A) → slice_get xs i ≡ Some x → slice_get ys i ≡ Some y → x ≡ y) → xs ≡ ys
   same_items [] [] many each = refl
@@ -99,3 +115,9 @@ module _ {A B : Type 0} (f : A → B) where
       let within = slice_get_within (map f xs) i y is in
       let x = item_at xs i (omega (arith, within, length-map xs f)) in
       (x.0, x.1, same_at (map f xs) i (f x.0) y (mapped_item xs i x.0 x.1) is)
+
+  -- a list that is mapped item by item
+  pub mapped_more : (xs : List A) (n : ℕ) (x : A) (y : B) (ys more : List B) → slice_get xs n ≡ Some x → y ≡ f x → ys ≡ map f (take n xs) → more ≡ ys ++ y ∷ []
+      → more ≡ map f (take (n + 1) xs)
+  mapped_more xs n x y ys more at is so_far pushed =
+      pushed ∙ ap (λ l. l ++ y ∷ []) so_far ∙ ap (λ z. map f (take n xs) ++ z ∷ []) is ∙ sym (map-append f (take n xs) (x ∷ [])) ∙ ap (map f) (sym (take_more xs n x at))

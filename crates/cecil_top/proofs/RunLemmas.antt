@@ -1,6 +1,8 @@
 -- From the beginning of a run to its end.
-use Rattle.std.proofs.Common.{◌≡◌, refl, sym, ◌∙◌, ap, subst, ℕ, ◌<◌, ◌≤◌, List, [], ◌∷◌, Option, Some, false, length, length-map, map, slice_get, arith, All}
+use Rattle.std.proofs.Common.{◌≡◌, refl, sym, ◌∙◌, ap, subst, ℕ, ◌<◌, ◌≤◌, List, [], ◌∷◌, Option, Some, Result, Ok, Err, IfOk, OnOk, false, length, map, slice_get, arith, All}
+use Rattle.std.proofs.lemmas.List.{length-map}
 use Rattle.std.proofs.lemmas.Option.{slice_get_within}
+use Rattle.cil_base.specs.declared.no_memory.NoMemory.{NoMemory}
 use Rattle.job_text.specs.declared.command.Command.{Command}
 use Rattle.lazy_core.specs.History.{entry_caller}
 use Rattle.lazy_core.specs.Legal.{Legal}
@@ -134,6 +136,12 @@ module _ (cores : List CoreState) (given : List (List Command)) (runnable : AreR
             let a = kept_of i r is in
             subst (λ (y : ActorRecord). ExplainsCaller core.bytes i m y.commands y.said core.history) a.2 ((closed_at m core at).2.explained i a.0 a.1);
       }
+
+    -- what closing comes to
+    pub run_ends : (a3 : List Actor) (r : Result (List CoreState) NoMemory) → IfOk r (λ ends. AllAreClosed modules a2 ends (length modules))
+        → OnOk r (AllAreSameFrom (length modules) a2 a3) → IfOk r (λ ends. Explains (bytes_of cores) given (record { cores = ends; actors = map record_of a3 }))
+    run_ends a3 (Ok ends) closed same = run_explains a3 ends closed same
+    run_ends a3 (Err e) closed same = tt
 
 -- a run without actors
 pub nobody_explains : (cores : List CoreState) → AreUntouched cores → Explains (bytes_of cores) [] (record { cores = cores; actors = [] })

@@ -1,26 +1,26 @@
-use Rattle.std.proofs.Common.{◌≡◌, ◌∙◌, ◌+◌, sym, subst, rules, length, List, []}
+use Rattle.std.proofs.Common.{◌≡◌, ◌∙◌, ◌+◌, sym, subst, length, List, [], ◌∷◌, ◌++◌}
 use Rattle.job_text.specs.declared.command.Command.{Command}
 use Rattle.cecil_top.specs.inner.Opens.{AllAreNew, AreOpened}
 use Rattle.cecil_top.proofs.OpenLemmas.{opened_for_all, opened_more}
 use Rattle.cecil_top.proofs.PlaceLemmas.{left_then, taken_at}
 use Rattle.cecil_top.proofs.opening.open_all.Goals as goal
 
-pub loop-_at-preserved : goal.loop-_at-preserved
-loop-_at-preserved c =
-    let n = c.loop-_at._at in
-    let left = c.loop-_at.invariant.0 in
-    let many = c.loop-_at.invariant.1 in
+pub loop-at-preserved : goal.loop-at-preserved
+loop-at-preserved c =
+    let n = c.loop-at._at in
+    let left = c.loop-at.invariant.0 in
+    let many = c.loop-at.invariant.1 in
     let core = c.remove-core.result in
     let l = c.in_ok-shared.shared in
-    let ms = c.loop-_at.modules in
-    let at = taken_at c.args.cores c.loop-_at.cores n core left c.remove-core.ensures.item in (
-      left_then c.args.cores c.loop-_at.cores c.remove-core.new.self n left c.remove-core.ensures.rest,
+    let ms = c.loop-at.modules in
+    let at = taken_at c.args.cores c.loop-at.cores n core left c.remove-core.ensures.item in (
+      left_then c.args.cores c.loop-at.cores c.remove-core.new.self n left c.remove-core.ensures.rest,
       c.in_ok-shared.ensures.actors.as_many ∙ many,
       subst (λ ms. AreOpened c.args.cores (length c.args.actors.now) ms (n + 1)) (sym c.in_ok-push.ensures.ok)
-          (opened_more c.args.cores (length c.args.actors.now) n ms core l c.loop-_at.invariant.2 at c.in_ok-shared.ensures.shared.1
+          (opened_more c.args.cores (length c.args.actors.now) n ms core l c.loop-at.invariant.2 at c.in_ok-shared.ensures.shared.1
           (c.in_ok-shared.ensures.shared.0 ∙ many)),
       λ given new. subst (λ ms. AllAreNew ms given c.open_one.new.actors (length c.args.actors.now)) (sym c.in_ok-push.ensures.ok)
           (subst (AllAreNew (ms ++ l ∷ []) given c.open_one.new.actors) many
-          (opened_for_all ms l given c.loop-_at.actors c.open_one.new.actors c.in_ok-shared.ensures.shared.0 c.in_ok-shared.ensures.actors
-          (subst (AllAreNew ms given c.loop-_at.actors) (sym many) (c.loop-_at.invariant.3 given new)))),
+          (opened_for_all ms l given c.loop-at.actors c.open_one.new.actors c.in_ok-shared.ensures.shared.0 c.in_ok-shared.ensures.actors
+          (subst (AllAreNew ms given c.loop-at.actors) (sym many) (c.loop-at.invariant.3 given new)))),
     )
