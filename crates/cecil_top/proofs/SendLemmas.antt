@@ -1,5 +1,5 @@
 -- An actor may go to another thread, part by part, and threads may share a module.
-use denote.Param.Send.{IsSend, sendable}
+use denote.Param.Send.{IsSend, IsSync, sendable}
 use Rattle.std.proofs.Crossing.{crosses}
 use Rattle.il_code.proofs.handler.Handler.TheSendSync as handler
 use Rattle.il_code.proofs.instr.Instr.TheSendSync as instr
@@ -15,12 +15,15 @@ use Rattle.node_model.proofs.value.BodyValue.TheSendSync as body
 use Rattle.node_model.proofs.value.ResourceValue.TheSendSync as resource
 use Rattle.node_model.proofs.value.RowValue.TheSendSync as row
 use Rattle.node_model.proofs.reply.TypeView.TheSendSync as type_view
+use Rattle.node_read.proofs.image.Image.TheSendSync as image
 use Rattle.node_model.specs.contracts.edit.Edit as edit
 use Rattle.node_model.specs.contracts.edit.OptSig as opt_sig
 use Rattle.node_model.specs.contracts.reply.MethodView as method_view
 use Rattle.node_model.specs.contracts.reply.Reply as reply
 use Rattle.shared_module.proofs.edit.Edited.TheSendSync as edited
 use Rattle.shared_module.specs.contracts.ask.Answer as answer
+use Rattle.shared_module.specs.contracts.shared.SharedModule as shared
+use Rattle.turn_lock.proofs.lock.TurnLock.TheSendSync as lock
 use Rattle.turn_lock.proofs.pass.Pass.TheSendSync as pass
 use Rattle.lazy_core.proofs.SendLemmas.{core_send}
 use Rattle.cecil_top.specs.contracts.actor.Actor as actor
@@ -63,3 +66,6 @@ said_send = search (said_is, sendable) depth 60 fits 20000
 
 pub actor_send : IsSend actor.the_row
 actor_send = search (command_send, said_send, core_send, pass.the_send, crosses, sendable) depth 60 fits 20000
+
+pub module_sync : IsSync shared.the_row
+module_sync = search (core_send, lock.the_sync, image.the_send, image.the_sync, crosses, sendable) depth 60 fits 20000
