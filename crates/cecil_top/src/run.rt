@@ -1,6 +1,7 @@
 //! All actors, each in a thread of its own where one can be started.
-ghost use Rattle.std.specs.Prelude.{◌≡◌, ◌<◌, All, IfOk, [], false, length, map};
+ghost use Rattle.std.specs.Prelude.{◌≡◌, ◌<◌, ℕ, List, All, IfOk, [], false, length, map};
 ghost use Rattle.std.specs.Thread.{IsSync};
+ghost use Rattle.turn_lock.specs.Passes.{LockValue};
 ghost use Rattle.lazy_core.specs.Slots.{CoreState};
 ghost use Rattle.cecil_top.specs.Explains.{Explains};
 ghost use Rattle.cecil_top.specs.Runnable.{AreRunnable, AreUntouched};
@@ -22,17 +23,35 @@ use std::sync::Wait;
 use std::thread;
 use std::thread::Threads;
 
+/// Modules that actors share, for threads, which then need to know of them that they may be shared, and no more.
+trait Serves {
+    ghost modules: { Self → List (LockValue (List ℕ)) };
+
+    /// Does all commands of an actor.
+    fn serve<R: Wait, G: Decoder>(&self, rt: &R, alloc: Global, actor: &mut Actor, gate: &G)
+        requires { IsReady (modules self.now) actor.old }
+        ensures { HasRun (modules self.now) actor.old actor.new };
+}
+
+impl Serves for List<SharedModule> {
+    ghost modules = { λ m. m };
+
+    fn serve<R: Wait, G: Decoder>(&self, rt: &R, alloc: Global, actor: &mut Actor, gate: &G) {
+        do_actor(rt, alloc, self.as_slice(), actor, gate)
+    }
+}
+
 /// Runs all actors.
-fn do_actors<R: Threads + Wait + Sync, G: Decoder + Sync>(
+fn do_actors<R: Threads + Wait + Sync, M: Serves + Sync, G: Decoder + Sync>(
     rt: &R,
     alloc: Global,
-    modules: &[SharedModule],
+    modules: &M,
     actors: &mut [Actor],
     gate: &G,
 )
     requires some { 0 < length actors.old }
-    requires ready { All (IsReady modules.now) actors.old }
-    ensures { AllHaveRun modules.now actors.old actors.new }
+    requires ready { All (IsReady (M.modules modules.now)) actors.old }
+    ensures { AllHaveRun (M.modules modules.now) actors.old actors.new }
 {
     let threads = actors.len();
     thread::for_each_mut(
@@ -40,9 +59,9 @@ fn do_actors<R: Threads + Wait + Sync, G: Decoder + Sync>(
         actors,
         threads,
         &|_: usize, actor: &mut Actor|
-            requires { IsSync R.row × IsSync G.row × IsReady modules.now actor.now }
-            ensures { HasRun modules.entry.now actor.entry.now actor.exit.now }
-        { do_actor(rt, alloc, modules, actor, gate) },
+            requires { IsSync R.row × IsSync M.row × IsSync G.row × IsReady (M.modules modules.now) actor.now }
+            ensures { HasRun (M.modules modules.entry.now) actor.entry.now actor.exit.now }
+        { modules.serve(rt, alloc, actor, gate) },
     );
 }
 
@@ -74,7 +93,7 @@ fn run_over<R: Threads + Wait + Sync, G: Decoder + Sync>(
         (map (λ (a : Actor). a.given) actors.old) (record { cores = ends; actors = map record_of actors.new })) }
 {
     let modules = open_all(alloc, cores, actors)?;
-    do_actors(rt, alloc, modules.as_slice(), actors, gate);
+    do_actors(rt, alloc, &modules, actors, gate);
     if any_short(actors) {
         return Err(NoMemory);
     }
