@@ -23,44 +23,27 @@ unfoldable pub replaced_token : List (Option Token) → Token → Token
 replaced_token made t = if t.table == 0xff then unwrap_or (unwrap_or (slice_get made t.rid) None) root else t
 
 unfoldable pub replaced_cell : List (Option Token) → Cell → Cell
-replaced_cell made (cells.Num n) = cells.Num n
-replaced_cell made (cells.Text text) = cells.Text text
-replaced_cell made (cells.Guid bytes) = cells.Guid bytes
-replaced_cell made cells.NoGuid = cells.NoGuid
-replaced_cell made (cells.Blob bytes) = cells.Blob bytes
 replaced_cell made (cells.Ref t) = cells.Ref (replaced_token made t)
-replaced_cell made cells.NoRef = cells.NoRef
+replaced_cell made cell = cell
 
 unfoldable pub replaced_operand : List (Option Token) → Operand → Operand
-replaced_operand made operands.None = operands.None
-replaced_operand made (operands.U8 n) = operands.U8 n
-replaced_operand made (operands.U16 n) = operands.U16 n
-replaced_operand made (operands.I8 n) = operands.I8 n
-replaced_operand made (operands.I32 n) = operands.I32 n
-replaced_operand made (operands.I64 n) = operands.I64 n
-replaced_operand made (operands.R4 bits) = operands.R4 bits
-replaced_operand made (operands.R8 bits) = operands.R8 bits
 replaced_operand made (operands.Tok t) = operands.Tok (replaced_token made t)
-replaced_operand made (operands.Text units) = operands.Text units
-replaced_operand made (operands.Target target) = operands.Target target
-replaced_operand made (operands.Switch targets) = operands.Switch targets
+replaced_operand made operand = operand
 
 abbrev pub replaced_instr : List (Option Token) → Instr → Instr
 replaced_instr made instr = record { op = instr.op; operand = replaced_operand made instr.operand }
 
 unfoldable pub replaced_kind : List (Option Token) → HandlerKind → HandlerKind
 replaced_kind made (handler_kinds.Typed t) = handler_kinds.Typed (replaced_token made t)
-replaced_kind made (handler_kinds.Filter start) = handler_kinds.Filter start
-replaced_kind made handler_kinds.Finally = handler_kinds.Finally
-replaced_kind made handler_kinds.Fault = handler_kinds.Fault
+replaced_kind made kind = kind
 
 abbrev pub replaced_handler : List (Option Token) → Handler → Handler
 replaced_handler made h = record {
-    kind = replaced_kind made h.kind;
-    try_start = h.try_start;
-    try_end = h.try_end;
-    start = h.start;
-    end = h.end;
+  kind = replaced_kind made h.kind;
+  try_start = h.try_start;
+  try_end = h.try_end;
+  start = h.start;
+  end = h.end;
 }
 
 unfoldable pub replaced_query : List (Option Token) → Query → Query

@@ -1,9 +1,14 @@
-//! The job file: a JSON text that names images, says what each actor asks and changes in them, and which images are
-//! written. Its definitions say which job a text denotes, and why another text denotes none.
+//! The job file: what a job says, as values, and its commands with their back references replaced.
 #![tactic(auto)]
 
 mod command;
 mod job;
+mod reference;
+mod replaced_edit;
+mod replaced_query;
 
 pub use command::Command;
 pub use job::{Job, JobFail, JobRefusal, Write};
+pub use reference::{BACK_REFERENCE, replace_token};
+pub use replaced_edit::{replace_in_edit, replace_references};
+pub use replaced_query::replace_in_query;
