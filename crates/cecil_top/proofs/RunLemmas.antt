@@ -1,5 +1,5 @@
 -- From the beginning of a run to its end.
-use Rattle.std.proofs.Common.{◌≡◌, refl, sym, ◌∙◌, ap, subst, ℕ, ◌<◌, ◌≤◌, List, [], ◌∷◌, Option, Some, Result, Ok, Err, IfOk, OnOk, false, length, map, slice_get, arith, All}
+use Rattle.std.proofs.Common.{◌≡◌, refl, sym, ◌∙◌, ap, subst, ℕ, ◌<◌, ◌≤◌, List, [], Some, Result, Ok, Err, IfOk, OnOk, false, length, map, slice_get, arith, All}
 use Rattle.std.proofs.lemmas.List.{length-map}
 use Rattle.std.proofs.lemmas.Option.{slice_get_within}
 use Rattle.cil_base.specs.declared.no_memory.NoMemory.{NoMemory}
@@ -12,13 +12,13 @@ use Rattle.cecil_top.specs.Explains.{AreDone, Explains}
 use Rattle.cecil_top.specs.Runnable.{AreRunnable, AreUntouched, CanRun}
 use Rattle.cecil_top.specs.declared.actor.Actor.{Actor}
 use Rattle.cecil_top.specs.declared.record.ActorRecord.{ActorRecord}
-use Rattle.cecil_top.specs.inner.Actors.{AllHaveRun, FitModules, HasRun, IsReady}
-use Rattle.cecil_top.specs.inner.Ends.{AllAreClosed, AllAreSameFrom, AllCanClose, IsClosed, IsSameFrom, record_of}
+use Rattle.cecil_top.specs.inner.Actors.{AllHaveRun, FitModules, IsReady}
+use Rattle.cecil_top.specs.inner.Ends.{AllAreClosed, AllAreSameFrom, AllCanClose, IsClosed, record_of}
 use Rattle.cecil_top.specs.inner.Opens.{AllAreNew, AreOpened, IsNew}
-use Rattle.cecil_top.specs.inner.Passes.{ExplainsSoFar, HasPasses, Held, IsPassFor, Shared, seen_by}
+use Rattle.cecil_top.specs.inner.Passes.{ExplainsSoFar, HasPasses, IsPassFor, Shared, seen_by}
 use Rattle.cecil_top.proofs.CallerLemmas.{explains_none}
 use Rattle.cecil_top.proofs.PassLemmas.{pass_there}
-use Rattle.cecil_top.proofs.PlaceLemmas.{all_at, at_all, item_at, item_mapped, mapped_item, same_items}
+use Rattle.cecil_top.proofs.PlaceLemmas.{all_at, at_all, item_at, item_mapped, same_items}
 
 -- the bytes of the images of cores
 abbrev pub bytes_of : List CoreState → List (List ℕ)

@@ -1,13 +1,11 @@
 -- A command more, in all modules.
-use Rattle.std.proofs.Common.{◌≡◌, ◌≢◌, sym, ◌∙◌, ap, subst, ℕ, ◌<◌, ◌≤◌, ◌⊎◌, inl, inr, List, [], ◌∷◌, ◌++◌, Option, Some, length, slice_get, arith}
+use Rattle.std.proofs.Common.{◌≡◌, ◌≢◌, sym, ◌∙◌, ap, ℕ, ◌⊎◌, inl, inr, List, [], ◌∷◌, ◌++◌, Option, Some, length, slice_get, arith}
 use Rattle.std.proofs.lemmas.Option.{slice_get_within}
 use Rattle.job_text.specs.declared.command.Command.{Command}
-use Rattle.shared_module.specs.Adds.{by_of}
 use Rattle.cecil_top.specs.Commands.{home_of}
 use Rattle.cecil_top.specs.Explained.{ExplainsCaller}
 use Rattle.cecil_top.specs.declared.said.Said.{Said}
 use Rattle.cecil_top.specs.inner.Passes.{ExplainsSoFar, HasPasses, Held, IsPassStep, Shared, seen_by}
-use Rattle.cecil_top.specs.inner.Steps.{IsStep}
 use Rattle.cecil_top.proofs.CallerLemmas.{explains_elsewhere, explains_step, explains_still}
 use Rattle.cecil_top.proofs.PlaceLemmas.{item_at, last_item, same_or_not}
 

@@ -1,5 +1,5 @@
 -- One command adds a step: from what a shared module says of a query and of an edit.
-use Rattle.std.proofs.Common.{◌≡◌, refl, sym, ◌∙◌, ap, subst, ℕ, zero, suc, ◌+◌, ◌≤◌, Bool, true, false, List, [], ◌∷◌, ◌++◌, Some, cond, eqb, eqb-true, eq-eqb, length, take, slice_get, append-nil, arith, ◌==◌}
+use Rattle.std.proofs.Common.{◌≡◌, refl, sym, ◌∙◌, ap, subst, ℕ, suc, ◌+◌, ◌≤◌, Bool, true, false, List, [], ◌∷◌, ◌++◌, Some, cond, eqb, eqb-true, eq-eqb, length, take, slice_get, append-nil, arith, ◌==◌}
 use mathlib.Core.List.{IsPrefix}
 use mathlib.Core.Logic.{dite}
 use native.Mathlib.Decide.{dec_le}

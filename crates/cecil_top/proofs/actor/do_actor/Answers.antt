@@ -1,4 +1,4 @@
-use Rattle.std.proofs.Common.{◌≡◌, ◌∙◌, sym, refl, subst, List}
+use Rattle.std.proofs.Common.{◌∙◌, sym, refl, subst, List}
 use Rattle.job_text.specs.declared.command.Command.{Command}
 use Rattle.cecil_top.specs.Explains.{AreDone}
 use Rattle.cecil_top.specs.inner.Passes.{ExplainsSoFar}

@@ -1,4 +1,4 @@
-use Rattle.std.proofs.Common.{◌≡◌, ◌∙◌, ◌++◌, ◌∷◌, [], ◌<◌, Some, sym, ap, subst, rules, length, length-append, slice_get, arith}
+use Rattle.std.proofs.Common.{◌≡◌, ◌∙◌, ◌++◌, ◌∷◌, [], ◌<◌, sym, ap, subst, rules, length, length-append, slice_get, arith}
 use Rattle.job_text.specs.References.{replaced}
 use Rattle.cecil_top.specs.Runnable.{CanRun}
 use Rattle.cecil_top.proofs.ActorLemmas.{next_done, next_is, replaced_runs}

@@ -1,4 +1,3 @@
-use Rattle.std.proofs.Common.{◌≡◌}
 use Rattle.cecil_top.specs.inner.Actors.{AreDoneTo}
 use Rattle.cecil_top.specs.inner.Passes.{ExplainsSoFar, HasPasses}
 use Rattle.cecil_top.proofs.actor.do_commands.Given as goal

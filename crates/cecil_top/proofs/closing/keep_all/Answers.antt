@@ -1,4 +1,3 @@
-use Rattle.std.proofs.Common.{◌≡◌}
 use Rattle.cecil_top.specs.inner.Ends.{record_of}
 use Rattle.cecil_top.proofs.PlaceLemmas.{left_then, mapped_more, taken_at}
 use Rattle.cecil_top.proofs.closing.keep_all.Goals as goal

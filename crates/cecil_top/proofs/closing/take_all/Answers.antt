@@ -1,4 +1,4 @@
-use Rattle.std.proofs.Common.{◌≡◌, ◌<◌, ◌∙◌, sym, subst, length, rules, arith}
+use Rattle.std.proofs.Common.{◌<◌, ◌∙◌, sym, subst, length, rules, arith}
 use Rattle.cecil_top.specs.declared.actor.Actor.{Actor}
 use Rattle.cecil_top.specs.inner.Passes.{HasPassAt}
 use Rattle.cecil_top.proofs.PlaceLemmas.{read_at}

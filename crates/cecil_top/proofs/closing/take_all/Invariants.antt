@@ -1,4 +1,4 @@
-use Rattle.std.proofs.Common.{◌≡◌, ◌≤◌}
+use Rattle.std.proofs.Common.{◌≤◌}
 use Rattle.std.specs.Prelude.{vec_capacity}
 use Rattle.cecil_top.specs.inner.Ends.{AreGiven, AreWithout}
 use Rattle.cecil_top.proofs.closing.take_all.Given as goal

@@ -1,4 +1,4 @@
-use Rattle.std.proofs.Common.{◌≡◌, sym, subst, length, IfOk}
+use Rattle.std.proofs.Common.{sym, subst, IfOk}
 use Rattle.job_text.specs.declared.command.Command.TheVariants as commands
 use Rattle.cecil_top.specs.declared.said.Said.TheVariants as saids
 use Rattle.cecil_top.specs.inner.Passes.{IsPassStep, IsSaidStep, IsToldAnswer, IsToldEdit}

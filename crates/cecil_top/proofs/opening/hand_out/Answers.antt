@@ -1,4 +1,4 @@
-use Rattle.std.proofs.Common.{◌≡◌, ◌+◌, ◌<◌, rules, length}
+use Rattle.std.proofs.Common.{◌<◌, rules, length}
 use Rattle.cecil_top.proofs.OpenLemmas.{handed_more}
 use Rattle.cecil_top.proofs.PlaceLemmas.{left_then, read_at, taken_at}
 use Rattle.cecil_top.proofs.opening.hand_out.Goals as goal

@@ -1,4 +1,4 @@
-use Rattle.std.proofs.Common.{◌≡◌, ◌+◌, refl, sym, subst, rules, slice_get, Some, []}
+use Rattle.std.proofs.Common.{◌+◌, refl, sym, subst, rules, []}
 use Rattle.cecil_top.specs.inner.Opens.{AllAreNew}
 use Rattle.cecil_top.proofs.OpenLemmas.{new_more}
 use Rattle.cecil_top.proofs.PlaceLemmas.{left_then, taken_at}

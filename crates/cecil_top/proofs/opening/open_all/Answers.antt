@@ -1,5 +1,4 @@
-use Rattle.std.proofs.Common.{◌≡◌, ◌∙◌, ◌+◌, sym, subst, length, List, [], ◌∷◌, ◌++◌}
-use Rattle.job_text.specs.declared.command.Command.{Command}
+use Rattle.std.proofs.Common.{◌∙◌, ◌+◌, sym, subst, length, [], ◌∷◌, ◌++◌}
 use Rattle.cecil_top.specs.inner.Opens.{AllAreNew, AreOpened}
 use Rattle.cecil_top.proofs.OpenLemmas.{opened_for_all, opened_more}
 use Rattle.cecil_top.proofs.PlaceLemmas.{left_then, taken_at}

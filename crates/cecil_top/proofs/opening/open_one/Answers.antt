@@ -1,4 +1,4 @@
-use Rattle.std.proofs.Common.{◌≡◌, ◌∙◌, ap, length, Some}
+use Rattle.std.proofs.Common.{◌∙◌, ap, length, Some}
 use Rattle.std.proofs.lemmas.List.FromFn.{length-map-range_with_len}
 use Rattle.turn_lock.specs.Passes.{new_pass}
 use Rattle.cecil_top.proofs.opening.open_one.Goals as goal

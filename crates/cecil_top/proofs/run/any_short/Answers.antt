@@ -1,4 +1,4 @@
-use Rattle.std.proofs.Common.{◌≡◌, false, length, rules}
+use Rattle.std.proofs.Common.{◌≡◌, false, rules}
 use Rattle.cecil_top.specs.declared.actor.Actor.{Actor}
 use Rattle.cecil_top.proofs.PlaceLemmas.{all_more, all_whole}
 use Rattle.cecil_top.proofs.run.any_short.Goals as goal

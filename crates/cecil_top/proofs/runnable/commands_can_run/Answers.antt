@@ -1,4 +1,4 @@
-use Rattle.std.proofs.Common.{◌≡◌, length, rules}
+use Rattle.std.proofs.Common.{rules}
 use Rattle.cecil_top.specs.Runnable.{CanRun}
 use Rattle.cecil_top.proofs.PlaceLemmas.{all_more, all_whole}
 use Rattle.cecil_top.proofs.runnable.commands_can_run.Goals as goal
