@@ -98,7 +98,7 @@ module _ (modules : List Shared) (k : ℕ) (given cs : List Command) (said : Lis
       let command_is = next_is cs cs_new n (replaced made asked) x done.as_many cs_is there in
       let step = subst (λ y. IsPassStep modules k (length said) y s.a old new) (sym command_is) s.step in
       let told : slice_get said_new n ≡ Some s.a =
-          ap (λ l. slice_get l n) s.more_is ∙ ap (slice_get (said ++ s.a ∷ [])) (sym done.answered) ∙ last_item said s.a in
+      ap (λ l. slice_get l n) s.more_is ∙ ap (slice_get (said ++ s.a ∷ [])) (sym done.answered) ∙ last_item said s.a in
       let row : made_new ≡ made ++ token_made s.a ∷ [] = made_is ∙ ap (λ r. made ++ r ∷ []) (tells s.a told) in (
         subst (λ l. AreDoneTo given l said_new made_new (n + 1)) (sym cs_is)
             (subst (λ l. AreDoneTo given (cs ++ replaced made asked ∷ []) l made_new (n + 1)) (sym s.more_is)

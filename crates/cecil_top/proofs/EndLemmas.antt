@@ -98,6 +98,6 @@ module _ (l : Shared) (m : ℕ) (actors : List Actor) (passes : List Held) (can 
           let its = pass_of i a p.0 at p.1 in
           let front = all_at (λ (q : Held). IsPrefix q.seen core.history) passes seen i p.0 p.1 in
           let same = subst (λ k. own entry_caller k core.history ≡ own entry_caller k p.0.seen) its.1
-              (all_at (λ (q : Held). own entry_caller q.number core.history ≡ own entry_caller q.number q.seen) passes mine i p.0 p.1) in
+          (all_at (λ (q : Held). own entry_caller q.number core.history ≡ own entry_caller q.number q.seen) passes mine i p.0 p.1) in
           subst (λ b. ExplainsCaller b i m a.commands a.said core.history) (sym bytes)
           (explains_longer l.base i m a.commands a.said p.0.seen (can.explained i a (Some p.0) at (g.each i a p.0 at p.1)) core.history front same)

@@ -43,9 +43,10 @@ module _ (cores : List CoreState) (given : List (List Command)) (runnable : AreR
           as_many = made.2.passes.as_many;
           each = λ m l p at there. subst (IsPassFor l a.number) (sym (made.2.passes.each m l p at there)) ((refl, refl), sym made.2.number);
         };
-        fit = subst (FitModules modules) (sym made.2.given)
-            (all_at (λ (cs : List Command). length cs ≤ 4096) given runnable.commands_few i made.0 made.1,
-            subst (λ k. All (CanRun k) made.0) (sym many) (all_at (All (CanRun (length cores))) given runnable.each i made.0 made.1));
+        fit = subst (FitModules modules) (sym made.2.given) (
+          all_at (λ (cs : List Command). length cs ≤ 4096) given runnable.commands_few i made.0 made.1,
+          subst (λ k. All (CanRun k) made.0) (sym many) (all_at (All (CanRun (length cores))) given runnable.each i made.0 made.1),
+        );
         none_done = made.2.none_done;
         none_said = made.2.none_said;
         so_far = λ m l p at there.
@@ -107,7 +108,7 @@ module _ (cores : List CoreState) (given : List (List Command)) (runnable : AreR
           let a = item_at a2 i (omega (arith, many, within)) in
           let s = same.each i a.0 z.0 a.1 z.1 in
           let kept : record_of a.0 ≡ record_of z.0 =
-              ap (λ cs. record_of (record a.0 { commands = cs })) (sym s.commands) ∙ ap (λ y. record_of (record z.0 { said = y })) (sym s.said) in
+          ap (λ cs. record_of (record a.0 { commands = cs })) (sym s.commands) ∙ ap (λ y. record_of (record z.0 { said = y })) (sym s.said) in
           (a.0, a.1, kept ∙ z.2)
 
       bytes_same : bytes_of ends ≡ bytes_of cores

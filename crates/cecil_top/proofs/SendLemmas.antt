@@ -51,8 +51,19 @@ method_view_is = search (sig_is, row.the_field_send, row.the_send, body.the_fiel
 
 reply_is : IsSend (reply.the_field).row
 reply_is =
-    search (sig_is, method_view_is, type_view.the_field_send, row.the_field_send, body.the_field_send, resource.the_field_send, facts.the_field_send, fault.the_field_send,
-        key.the_field_send, crosses, sendable)
+    search (
+      sig_is,
+      method_view_is,
+      type_view.the_field_send,
+      row.the_field_send,
+      body.the_field_send,
+      resource.the_field_send,
+      facts.the_field_send,
+      fault.the_field_send,
+      key.the_field_send,
+      crosses,
+      sendable,
+    )
     depth 60 fits 40000
 
 answer_is : IsSend (answer.the_field).row
