@@ -1,2 +1,17 @@
 pub mod Parts
 pub mod References
+pub mod Values
+pub mod Hex
+pub mod Names
+pub mod NewRows
+pub mod Tokens
+pub mod Cells
+pub mod Operands
+pub mod Handlers
+pub mod Forms
+pub mod Args
+pub mod Commands
+pub mod Shape
+pub mod Limits
+pub mod Job
+pub mod Answers

@@ -1,0 +1,13 @@
+-- A search among the forms of commands.
+use Rattle.std.proofs.Common.{◌≡◌, ◌∙◌, ℕ, ◌+◌, ◌<◌, ◌≤◌, List, length, map, drop, get_or, Bool, true, false, cond, Option, Some, None, sym, ap}
+use Rattle.std.proofs.lemmas.List.{at_drop_more, drop_all}
+use Rattle.std.specs.Prelude.{bytes_eq, find}
+use Rattle.job_text.specs.Forms.{FormOf, form_named, forms, seen_form}
+use Rattle.job_text.specs.declared.form.Form.{Form}
+
+is_named : List ℕ → FormOf → Bool
+is_named text form = bytes_eq form.name text
+
+-- the forms from a place on have the first of that name
+abbrev pub Ahead : List Form → ℕ → List ℕ → Type 0
+Ahead fs i text = find (λ form. bytes_eq form.name text) (map seen_form (drop i fs)) ≡ find (λ form. bytes_eq form.name text) forms

@@ -1,0 +1,14 @@
+use Rattle.std.proofs.Common.{◌≡◌, ◌∙◌, ap, sym}
+use Rattle.std.proofs.lemmas.Iterator.{YieldsList-from_chars}
+use Rattle.std.proofs.lemmas.Iterator.Consumers.{YieldsList-end}
+use Rattle.std.specs.Char.Escape.{encode_utf16}
+use Rattle.std.specs.Prelude.{flat_map}
+use Rattle.job_text.proofs.OperandLemmas.{same_map}
+use Rattle.job_text.specs.Operands.{units_of}
+use Rattle.job_text.proofs.operand.units_of.Goals as goal
+
+pub returns : goal.returns
+unfolding units_of
+returns c =
+    let t = YieldsList-end (YieldsList-from_chars c.args.text.now c.utf8.text cc) c.loop-c.yielded _ c.loop-c.yielded_by _ _ c.in-None.is c.next.ensures.steps in
+    c.loop-c.invariant ∙ ap (flat_map encode_utf16) (sym (same_map c.loop-c.yielded) ∙ t.0)
