@@ -1,6 +1,8 @@
 pub mod CommandLemmas
+pub mod CommandRunLemmas
 pub mod FormLemmas
 pub mod JobLemmas
+pub mod JobRunLemmas
 pub mod NameLemmas
 pub mod OperandLemmas
 pub mod TokenLemmas

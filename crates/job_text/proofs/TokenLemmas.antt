@@ -29,3 +29,8 @@ pub number_large : (bs : List ℕ) (n : ℕ) → 4096 ≤ n → command_place (d
 unfolding decimal_from
 number_large [] n h = grind (arith, nat_tests)
 number_large (b ∷ bs) n h = let e = number_large bs (10 * n + (b - 48)) (omega arith) in grind (arith, e)
+
+-- digits that made a number too large, and what follows them
+pub digit_large : (n : ℕ) (s : List ℕ) (i : ℕ) → i < length s → 48 ≤ get_or s i 0 → get_or s i 0 ≤ 57 → 4096 ≤ 10 * n + (get_or s i 0 - 48) → command_place (decimal_from n (drop i s)) ≡ None
+digit_large n s i h low high large =
+    ap command_place (sym (digit_next n s i h low high)) ∙ number_large (drop (i + 1) s) (10 * n + (get_or s i 0 - 48)) large

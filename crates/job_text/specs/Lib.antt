@@ -15,3 +15,4 @@ pub mod Shape
 pub mod Limits
 pub mod Job
 pub mod Answers
+pub mod Runnable

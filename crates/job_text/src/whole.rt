@@ -5,6 +5,7 @@ ghost use Rattle.std.specs.List.{All};
 ghost use Rattle.job_text.specs.Answers.{AnswersJob, AnswersActors, IsJobOf};
 ghost use Rattle.job_text.specs.Job.{actors_from, given_job, job_of_parts, with_actors};
 ghost use Rattle.job_text.specs.Limits.{long_actor, over_limit};
+ghost use Rattle.job_text.specs.Runnable.{AreRunnable};
 ghost use Rattle.job_text.specs.Shape.{given_name};
 ghost use Rattle.job_text.specs.declared.job.JobFail.TheVariants as fails;
 ghost use Rattle.job_text.specs.declared.job.JobRefusal.TheVariants as refusals;
@@ -165,9 +166,11 @@ fn given_job(alloc: Global, value: &Value) -> Result<Job, JobFail>
 }
 
 /// The job of a text, or the first refusal of it: that it is no JSON, that its value has not the form of a job, the first
-/// count that passes its limit, the first value in the place of a command that is none.
+/// count that passes its limit, the first value in the place of a command that is none. Each command of a job can be run: it
+/// is a query or an edit of one of the job's modules.
 pub fn job_of(alloc: Global, text: &[u8]) -> Result<Job, JobFail>
-    ensures { IsJobOf text.now result }
+    ensures job { IsJobOf text.now result }
+    ensures runnable { IfOk result (λ job. AreRunnable (length job.modules) job.actors) }
 {
     match Value::from_slice(alloc, text) {
         Ok(value) => given_job(alloc, &value),
