@@ -41,10 +41,10 @@ commands_run n before [] cs h e =
     record { many = ap length (sym same) ∙ (omega arith); each = subst (All (CanRun n)) same h }
 commands_run n before (d ∷ ds) cs h e =
     let r = commands_step n before d ds (given_command n before d) cs refl e (λ c k f.
-        let r = commands_run n (before ++ c ∷ []) ds cs (All-push (CanRun n) before c h k) f in
-        let m = r.many in
-        let one = one_more before c in
-        record { many = omega (arith, m, one); each = r.each }) in
+    let r = commands_run n (before ++ c ∷ []) ds cs (All-push (CanRun n) before c h k) f in
+    let m = r.many in
+    let one = one_more before c in
+    record { many = omega (arith, m, one); each = r.each }) in
     let m = r.many in
     record { many = omega (arith, m); each = r.each }
 
@@ -77,10 +77,10 @@ actors_run n before [] all h few e =
     record { many = ap length (sym same) ∙ (omega arith); each = subst (All (Fine n)) same h }
 actors_run n before (d ∷ ds) all h few e =
     let a = actors_step n before d ds (commands_from n [] (items d)) all refl e (short (length (items d)) (long_actor ds) few) (λ cs k f.
-        let a = actors_run n (before ++ cs ∷ []) ds all (All-push (Fine n) before cs h k) (rest (length (items d)) (long_actor ds) few) f in
-        let m = a.many in
-        let one = one_actor_more before cs in
-        record { many = omega (arith, m, one); each = a.each }) in
+    let a = actors_run n (before ++ cs ∷ []) ds all (All-push (Fine n) before cs h k) (rest (length (items d)) (long_actor ds) few) f in
+    let m = a.many in
+    let one = one_actor_more before cs in
+    record { many = omega (arith, m, one); each = a.each }) in
     let m = a.many in
     record { many = omega (arith, m); each = a.each }
 

@@ -1,4 +1,4 @@
-use Rattle.std.proofs.Common.{◌≡◌, ◌∙◌, ◌∷◌, ◌+◌, ap, refl, true, false, rules, drop}
+use Rattle.std.proofs.Common.{◌≡◌, ◌∙◌, [], ◌∷◌, ◌+◌, ap, refl, true, false, rules, drop}
 use Rattle.std.specs.BTreeSet.{contains_text}
 use Rattle.std.specs.Prelude.{bytes_eq, ◌||◌}
 use Rattle.serde_json.specs.View.{view}
