@@ -1,11 +1,10 @@
 -- A job that a value denotes can be run: the arguments of each command begin with a module that is there.
-use Rattle.std.proofs.Common.{◌≡◌, ◌∙◌, ℕ, ◌+◌, ◌<◌, ◌≤◌, List, [], ◌∷◌, ◌++◌, length, map, Bool, true, false, cond, Option, Some, None, refl, sym, ap, subst, arith, length-append}
+use Rattle.std.proofs.Common.{◌≡◌, ℕ, ◌<◌, List, [], ◌∷◌, Bool, true, false, Option, Some, None, refl, subst, arith}
 use Rattle.std.proofs.lemmas.Bool.{and_parts}
 use Rattle.std.proofs.lemmas.Bool.Decides.{nat_tests}
-use Rattle.std.proofs.lemmas.List.Elements.{All-append}
 use Rattle.std.proofs.lemmas.Option.{none-some, same_Some}
-use Rattle.std.specs.List.{All, find, list_all}
-use Rattle.std.specs.Prelude.{◌&&◌, bytes_eq, option_map, IfSome, Ok, Err, Result, nat_lt}
+use Rattle.std.specs.List.{list_all}
+use Rattle.std.specs.Prelude.{◌&&◌, bytes_eq, option_map, IfSome, nat_lt}
 use Rattle.cil_base.proofs.StepLemmas.{came, mapped, split}
 use Rattle.cil_base.specs.Steps.{◌>>=◌}
 use Rattle.cil_base.specs.Token.{root}
@@ -13,7 +12,7 @@ use Rattle.md_schema.proofs.SchemaLemmas.{find-all}
 use Rattle.serde_json.specs.Data.{Data}
 use Rattle.serde_json.specs.Find.{as_number, as_u64}
 use Rattle.job_text.specs.Args.{no_args, with_argument, with_arguments}
-use Rattle.job_text.specs.Commands.{after_command, command_of, commands_from, edit_of, given_command, of_form, of_values, query_of}
+use Rattle.job_text.specs.Commands.{command_of, edit_of, given_command, of_form, of_values, query_of}
 use Rattle.job_text.specs.Forms.{FormOf, form_named, forms}
 use Rattle.job_text.specs.Runnable.{CanRun}
 use Rattle.job_text.specs.Tokens.{given_token}

@@ -1,8 +1,7 @@
 -- A search among the forms of commands.
-use Rattle.std.proofs.Common.{◌≡◌, ◌∙◌, ℕ, ◌+◌, ◌<◌, ◌≤◌, List, length, map, drop, get_or, Bool, true, false, cond, Option, Some, None, sym, ap}
-use Rattle.std.proofs.lemmas.List.{at_drop_more, drop_all}
+use Rattle.std.proofs.Common.{◌≡◌, ℕ, List, map, drop, Bool}
 use Rattle.std.specs.Prelude.{bytes_eq, find}
-use Rattle.job_text.specs.Forms.{FormOf, form_named, forms, seen_form}
+use Rattle.job_text.specs.Forms.{FormOf, forms, seen_form}
 use Rattle.job_text.specs.declared.form.Form.{Form}
 
 is_named : List ℕ → FormOf → Bool

@@ -1,9 +1,8 @@
 -- The commands of a job's actors can be run, and are within the limits.
-use Rattle.std.proofs.Common.{◌≡◌, ◌∙◌, ℕ, ◌+◌, ◌<◌, ◌≤◌, List, [], ◌∷◌, ◌++◌, length, map, Bool, true, false, cond, Option, Some, None, refl, sym, ap, subst, arith}
+use Rattle.std.proofs.Common.{◌≡◌, ◌∙◌, ℕ, ◌+◌, ◌≤◌, List, [], ◌∷◌, ◌++◌, length, map, cond, Option, Some, None, refl, sym, ap, subst, arith}
 use Rattle.std.proofs.lemmas.Bool.Decides.{nat_tests}
 use Rattle.std.proofs.lemmas.List.{length-map}
 use Rattle.std.proofs.lemmas.List.Elements.{All-nil, All-push, All-weaker}
-use Rattle.std.proofs.lemmas.Option.{none-some, same_Some}
 use Rattle.std.specs.List.{All}
 use Rattle.std.specs.Prelude.{Ok, Err, IfOk, Result, codes, nat_lt}
 use Rattle.cil_base.proofs.StepLemmas.{split}
@@ -22,7 +21,6 @@ use Rattle.job_text.specs.Values.{member}
 use Rattle.job_text.specs.declared.command.Command.{Command}
 use Rattle.job_text.specs.declared.job.JobFail.{JobFail}
 use Rattle.job_text.specs.declared.job.JobFail.TheVariants as fails
-use Rattle.job_text.specs.declared.job.JobRefusal.{JobRefusal}
 use Rattle.job_text.specs.declared.job.JobRefusal.TheVariants as refusals
 
 -- so many commands, each of which can be run

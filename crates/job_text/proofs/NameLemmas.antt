@@ -1,5 +1,5 @@
 -- A search among the numbers from one on.
-use Rattle.std.proofs.Common.{◌≡◌, ℕ, suc, ◌+◌, ◌-◌, ◌<◌, ◌≤◌, Bool, Option, Some, None, cond, refl, arith}
+use Rattle.std.proofs.Common.{◌≡◌, ℕ, suc, ◌+◌, ◌-◌, ◌<◌, ◌≤◌, Bool, Some, None, cond, refl, arith}
 use Rattle.job_text.specs.Names.{first_from}
 
 pub first_more : (p : ℕ → Bool) (n i : ℕ) → i < n → first_from p (n - i) i ≡ cond (p i) (Some i) (first_from p (n - (i + 1)) (i + 1))

@@ -1,5 +1,5 @@
 -- Cells as commands give them, by the kinds of their columns.
-use Rattle.std.specs.Prelude.{ℕ, ◌^◌, ◌==◌, List, [], ◌∷◌, ◌++◌, Option, Some, None, codes, filter, if◌then◌else◌, map, option_map}
+use Rattle.std.specs.Prelude.{ℕ, ◌^◌, ◌==◌, List, [], ◌∷◌, ◌++◌, Option, Some, None, codes, filter, if◌then◌else◌, option_map}
 use Rattle.cil_base.specs.Steps.{◌>>=◌}
 use Rattle.md_schema.specs.Column.{ColumnOf, is_cell_kind}
 use Rattle.md_schema.specs.Entry.{column_of, columns_of}

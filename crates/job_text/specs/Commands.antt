@@ -1,5 +1,5 @@
 -- The commands of an actor, of the JSON values that give them.
-use Rattle.std.specs.Prelude.{◌≡◌, ℕ, List, [], ◌∷◌, ◌++◌, Bool, false, Option, Some, None, Result, Ok, Err, length, option_map}
+use Rattle.std.specs.Prelude.{ℕ, List, [], ◌∷◌, ◌++◌, false, Option, Some, None, Result, Ok, Err, length, option_map}
 use Rattle.cil_base.specs.Steps.{◌>>=◌}
 use Rattle.cil_base.specs.Token.{root}
 use Rattle.il_code.specs.Body.{Body}
@@ -12,7 +12,6 @@ use Rattle.node_model.specs.declared.query.Query.TheVariants as queries
 use Rattle.node_model.specs.declared.value.BodyValue.TheVariants as bodies
 use Rattle.node_model.specs.declared.value.ResourceValue.TheVariants as resources
 use Rattle.serde_json.specs.Data.{Data}
-use Rattle.sig_tree.specs.declared.tree.SigTree.{SigTree}
 use Rattle.job_text.specs.Args.{no_args, with_arguments}
 use Rattle.job_text.specs.Forms.{FormOf, form_named}
 use Rattle.job_text.specs.Values.{given_list, given_text}

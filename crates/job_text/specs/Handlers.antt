@@ -1,5 +1,5 @@
 -- What a handler is for, as commands give it: ECMA-335 II.25.4.6.
-use Rattle.std.specs.Prelude.{ℕ, ◌^◌, List, Bool, Option, Some, None, bytes_eq, codes, if◌then◌else◌, option_map}
+use Rattle.std.specs.Prelude.{ℕ, ◌^◌, List, Option, Some, None, bytes_eq, codes, if◌then◌else◌, option_map}
 use Rattle.cil_base.specs.Token.{root}
 use Rattle.il_code.specs.declared.handler.HandlerKind.{HandlerKind}
 use Rattle.il_code.specs.declared.handler.HandlerKind.TheVariants as kinds

@@ -1,5 +1,5 @@
 -- Operands as commands give them, by the kinds of their instructions: ECMA-335 III.1.9.
-use Rattle.std.specs.Prelude.{ℕ, ◌^◌, ℤ, pos, negsuc, ◌-◌, List, [], ◌∷◌, ◌++◌, Option, Some, None, chars, flat_map}
+use Rattle.std.specs.Prelude.{ℕ, ◌^◌, pos, negsuc, List, [], ◌∷◌, ◌++◌, Option, Some, None, chars, flat_map}
 use Rattle.std.specs.Prelude.{if◌then◌else◌, option_map}
 use Rattle.std.specs.Char.Escape.{encode_utf16}
 use Rattle.cil_base.specs.Steps.{◌>>=◌}

@@ -1,5 +1,5 @@
 -- Back references, and commands in which each stands replaced by the token that it stands for.
-use Rattle.std.specs.Prelude.{◌==◌, List, Option, Some, None, slice_get, map, unwrap_or, if◌then◌else◌}
+use Rattle.std.specs.Prelude.{◌==◌, List, Option, None, slice_get, map, unwrap_or, if◌then◌else◌}
 use Rattle.cil_base.specs.Token.{Token, root}
 use Rattle.il_code.specs.declared.handler.Handler.{Handler}
 use Rattle.il_code.specs.declared.handler.HandlerKind.{HandlerKind}
