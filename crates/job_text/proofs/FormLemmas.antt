@@ -1,11 +1,8 @@
 -- A search among the forms of commands.
-use Rattle.std.proofs.Common.{◌≡◌, ℕ, List, map, drop, Bool}
+use Rattle.std.proofs.Common.{◌≡◌, ℕ, List, map, drop}
 use Rattle.std.specs.Prelude.{bytes_eq, find}
-use Rattle.job_text.specs.Forms.{FormOf, forms, seen_form}
+use Rattle.job_text.specs.Forms.{forms, seen_form}
 use Rattle.job_text.specs.declared.form.Form.{Form}
-
-is_named : List ℕ → FormOf → Bool
-is_named text form = bytes_eq form.name text
 
 -- the forms from a place on have the first of that name
 abbrev pub Ahead : List Form → ℕ → List ℕ → Type 0

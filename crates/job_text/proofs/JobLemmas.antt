@@ -27,18 +27,19 @@ pub actors_over : (n : ℕ) (all : List (List Command)) (vs : List Value) (i : �
 unfolding actors_from
 actors_over n all vs i h = ap (λ xs. actors_from n all (map view xs)) (drop_all i vs h)
 
-short : (n : ℕ) (o : Option ℕ) → cond (nat_lt 4096 n) (Some n) o ≡ None → n ≤ 4096
-short n o e = grind (arith, nat_tests)
+-- the first actor of those of whom none has too many commands, and the others
+pub few_commands : (n : ℕ) (o : Option ℕ) → cond (nat_lt 4096 n) (Some n) o ≡ None → n ≤ 4096
+few_commands n o e = grind (arith, nat_tests)
 
-rest : (n : ℕ) (o : Option ℕ) → cond (nat_lt 4096 n) (Some n) o ≡ None → o ≡ None
-rest n o e = grind (arith, nat_tests)
+pub later_short : (n : ℕ) (o : Option ℕ) → cond (nat_lt 4096 n) (Some n) o ≡ None → o ≡ None
+later_short n o e = grind (arith, nat_tests)
 
 -- where no actor has too many commands, the one at a place has not
 pub long_none : (vs : List Value) (i : ℕ) (d : Value) → long_actor (map view vs) ≡ None → i < length vs → length (items (view (get_or vs i d))) ≤ 4096
 unfolding long_actor
 long_none [] i d e h = absurd (omega arith)
-long_none (v ∷ vs) zero d e h = short (length (items (view v))) (long_actor (map view vs)) e
-long_none (v ∷ vs) (suc i) d e h = long_none vs i d (rest (length (items (view v))) (long_actor (map view vs)) e) (omega arith)
+long_none (v ∷ vs) zero d e h = few_commands (length (items (view v))) (long_actor (map view vs)) e
+long_none (v ∷ vs) (suc i) d e h = long_none vs i d (later_short (length (items (view v))) (long_actor (map view vs)) e) (omega arith)
 
 pub one_actor_more : (all : List (List Command)) (cs : List Command) → length (all ++ cs ∷ []) ≡ length all + 1
 one_actor_more all cs = simp length-append

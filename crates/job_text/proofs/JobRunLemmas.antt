@@ -8,7 +8,7 @@ use Rattle.std.specs.Prelude.{Ok, Err, IfOk, Result, codes, nat_lt}
 use Rattle.cil_base.proofs.StepLemmas.{split}
 use Rattle.serde_json.specs.Data.{Data}
 use Rattle.job_text.proofs.CommandLemmas.{one_more}
-use Rattle.job_text.proofs.JobLemmas.{one_actor_more}
+use Rattle.job_text.proofs.JobLemmas.{few_commands, later_short, one_actor_more}
 use Rattle.job_text.proofs.CommandRunLemmas.{command_runs}
 use Rattle.job_text.specs.Answers.{AnswersJob}
 use Rattle.job_text.specs.Commands.{after_command, commands_from, given_command}
@@ -55,12 +55,6 @@ record Act (n count : ℕ) (all : List (List Command)) : Type 0 where
   many : length all ≡ count
   each : All (Fine n) all
 
-short : (n : ℕ) (o : Option ℕ) → cond (nat_lt 4096 n) (Some n) o ≡ None → n ≤ 4096
-short n o e = grind (arith, nat_tests)
-
-rest : (n : ℕ) (o : Option ℕ) → cond (nat_lt 4096 n) (Some n) o ≡ None → o ≡ None
-rest n o e = grind (arith, nat_tests)
-
 actors_step : (n : ℕ) (before : List (List Command)) (d : Data) (ds : List Data) (r : Result (List Command) ℕ) (all : List (List Command)) → commands_from n [] (items d) ≡ r → after_actor before (λ more. actors_from n more ds) r ≡ Ok all → length (items d) ≤ 4096 → ((cs : List Command) → Fine n cs → actors_from n (before ++ cs ∷ []) ds ≡ Ok all → Act n (length before + 1 + length ds) all) → Act n (length before + 1 + length ds) all
 actors_step n before d ds (Err c) all r e few go = absurd (cc)
 actors_step n before d ds (Ok cs) all r e few go =
@@ -74,8 +68,8 @@ actors_run n before [] all h few e =
     let same : before ≡ all = cc in
     record { many = ap length (sym same) ∙ (omega arith); each = subst (All (Fine n)) same h }
 actors_run n before (d ∷ ds) all h few e =
-    let a = actors_step n before d ds (commands_from n [] (items d)) all refl e (short (length (items d)) (long_actor ds) few) (λ cs k f.
-    let a = actors_run n (before ++ cs ∷ []) ds all (All-push (Fine n) before cs h k) (rest (length (items d)) (long_actor ds) few) f in
+    let a = actors_step n before d ds (commands_from n [] (items d)) all refl e (few_commands (length (items d)) (long_actor ds) few) (λ cs k f.
+    let a = actors_run n (before ++ cs ∷ []) ds all (All-push (Fine n) before cs h k) (later_short (length (items d)) (long_actor ds) few) f in
     let m = a.many in
     let one = one_actor_more before cs in
     record { many = omega (arith, m, one); each = a.each }) in

@@ -9,6 +9,7 @@ pub mod Cells
 pub mod Operands
 pub mod Handlers
 pub mod Forms
+pub mod ArgumentValues
 pub mod Args
 pub mod Commands
 pub mod Shape

@@ -2,7 +2,8 @@
 //! of its kind.
 
 ghost use Rattle.std.specs.Prelude.{◌≡◌, []};
-ghost use Rattle.job_text.specs.Args.{given_code, given_column, if_fits, given_link, given_member_table, given_table, with_argument, given_word};
+ghost use Rattle.job_text.specs.ArgumentValues.{given_code, given_column, given_link, given_member_table, given_table, given_word};
+ghost use Rattle.job_text.specs.Args.{if_fits, with_argument};
 ghost use Rattle.job_text.specs.declared.form.ArgumentKind.TheVariants as kinds;
 ghost use Rattle.serde_json.specs.View.{view};
 
@@ -16,7 +17,7 @@ use md_schema::{Link, table};
 use serde_json::Value;
 
 /// The number of four bytes that a value gives.
-#[tactic(auto, unfolding(crate::specs::Args::given_word))]
+#[tactic(auto, unfolding(crate::specs::ArgumentValues::given_word))]
 pub(crate) fn given_word(value: &Value) -> Option<u32>
     ensures { result ≡ given_word (view value.now) }
 {
@@ -25,7 +26,7 @@ pub(crate) fn given_word(value: &Value) -> Option<u32>
 }
 
 /// The table that a text names.
-#[tactic(auto, unfolding(crate::specs::Args::given_table))]
+#[tactic(auto, unfolding(crate::specs::ArgumentValues::given_table))]
 fn given_table(value: &Value) -> Option<u8>
     ensures { result ≡ given_table (view value.now) }
 {
@@ -33,7 +34,7 @@ fn given_table(value: &Value) -> Option<u8>
 }
 
 /// The table that a text names, where its rows are the members of types.
-#[tactic(auto, unfolding(crate::specs::Args::given_member_table))]
+#[tactic(auto, unfolding(crate::specs::ArgumentValues::given_member_table))]
 fn given_member_table(value: &Value) -> Option<u8>
     ensures { result ≡ given_member_table (view value.now) }
 {
@@ -46,7 +47,7 @@ fn given_member_table(value: &Value) -> Option<u8>
 }
 
 /// The link that a text names.
-#[tactic(auto, unfolding(crate::specs::Args::given_link))]
+#[tactic(auto, unfolding(crate::specs::ArgumentValues::given_link))]
 fn given_link(value: &Value) -> Option<Link>
     ensures { result ≡ given_link (view value.now) }
 {
@@ -54,7 +55,7 @@ fn given_link(value: &Value) -> Option<Link>
 }
 
 /// The column of a table that a text names.
-#[tactic(auto, unfolding(crate::specs::Args::given_column))]
+#[tactic(auto, unfolding(crate::specs::ArgumentValues::given_column))]
 fn given_column(table: u8, value: &Value) -> Option<u8>
     ensures { result ≡ given_column table (view value.now) }
 {
@@ -62,7 +63,7 @@ fn given_column(table: u8, value: &Value) -> Option<u8>
 }
 
 /// The code of the instruction that a text names.
-#[tactic(auto, unfolding(crate::specs::Args::given_code))]
+#[tactic(auto, unfolding(crate::specs::ArgumentValues::given_code))]
 fn given_code(value: &Value) -> Option<u16>
     ensures { result ≡ given_code (view value.now) }
 {

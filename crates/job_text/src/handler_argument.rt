@@ -2,7 +2,8 @@
 //! its kind.
 
 ghost use Rattle.std.specs.Prelude.{◌≡◌, []};
-ghost use Rattle.job_text.specs.Args.{if_fits, given_kind, with_argument};
+ghost use Rattle.job_text.specs.ArgumentValues.{given_kind};
+ghost use Rattle.job_text.specs.Args.{if_fits, with_argument};
 ghost use Rattle.job_text.specs.declared.form.ArgumentKind.TheVariants as kinds;
 ghost use Rattle.serde_json.specs.View.{view};
 
@@ -15,7 +16,7 @@ use il_code::HandlerKind;
 use serde_json::Value;
 
 /// The kind of handler that a text names.
-#[tactic(auto, unfolding(crate::specs::Args::given_kind))]
+#[tactic(auto, unfolding(crate::specs::ArgumentValues::given_kind))]
 fn given_kind(value: &Value) -> Option<HandlerKind>
     ensures { result ≡ given_kind (view value.now) }
 {

@@ -2,7 +2,8 @@
 //! its kind.
 
 ghost use Rattle.std.specs.Prelude.{◌≡◌, IfOk, []};
-ghost use Rattle.job_text.specs.Args.{if_fits, given_code_operand, given_sig, given_sig_or_null, given_text_or_null, with_argument};
+ghost use Rattle.job_text.specs.ArgumentValues.{given_code_operand, given_sig, given_sig_or_null, given_text_or_null};
+ghost use Rattle.job_text.specs.Args.{if_fits, with_argument};
 ghost use Rattle.job_text.specs.Values.{given_text};
 ghost use Rattle.job_text.specs.declared.form.ArgumentKind.TheVariants as kinds;
 ghost use Rattle.serde_json.specs.View.{view};
@@ -22,7 +23,7 @@ use sig_tree::Sig;
 use std::alloc::Global;
 
 /// The signature of a text of hex digits: a type alone where the table is TypeSpec.
-#[tactic(auto, unfolding(crate::specs::Args::given_sig))]
+#[tactic(auto, unfolding(crate::specs::ArgumentValues::given_sig))]
 fn given_sig(alloc: Global, of: u8, value: &Value) -> Result<Option<Sig>, NoMemory>
     ensures { IfOk result (λ sig. sig ≡ given_sig of (view value.now)) }
 {
@@ -33,7 +34,7 @@ fn given_sig(alloc: Global, of: u8, value: &Value) -> Result<Option<Sig>, NoMemo
 }
 
 /// The same, or none for null.
-#[tactic(auto, unfolding(crate::specs::Args::given_sig_or_null))]
+#[tactic(auto, unfolding(crate::specs::ArgumentValues::given_sig_or_null))]
 fn given_sig_or_null(alloc: Global, of: u8, value: &Value) -> Result<Option<OptSig>, NoMemory>
     ensures { IfOk result (λ sig. sig ≡ given_sig_or_null of (view value.now)) }
 {
@@ -57,7 +58,7 @@ fn given_text_copy(alloc: Global, value: &Value) -> Result<Option<Bytes>, NoMemo
 }
 
 /// The same, or none for null.
-#[tactic(auto, unfolding(crate::specs::Args::given_text_or_null))]
+#[tactic(auto, unfolding(crate::specs::ArgumentValues::given_text_or_null))]
 fn given_text_or_null(alloc: Global, value: &Value) -> Result<Option<OptText>, NoMemory>
     ensures { IfOk result (λ text. text ≡ given_text_or_null (view value.now)) }
 {
@@ -71,7 +72,7 @@ fn given_text_or_null(alloc: Global, value: &Value) -> Result<Option<OptText>, N
 }
 
 /// The operand that a value gives for the instruction of a code.
-#[tactic(auto, unfolding(crate::specs::Args::given_code_operand))]
+#[tactic(auto, unfolding(crate::specs::ArgumentValues::given_code_operand))]
 fn given_code_operand(
     alloc: Global,
     home: u32,
