@@ -1,0 +1,11 @@
+pub mod SortLemmas
+pub mod SigLemmas
+pub mod KeptLemmas
+pub mod ScanLemmas
+pub mod WalkLemmas
+pub mod TableLemmas
+pub mod TablesLemmas
+pub mod DistinctLemmas
+pub mod NumberLemmas
+pub mod PlanLemmas
+pub mod WorkedFacts

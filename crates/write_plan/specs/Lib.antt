@@ -1,0 +1,9 @@
+pub mod Seen
+pub mod GraphWalk
+pub mod Named
+pub mod Written
+pub mod Unfit
+pub mod Refusals
+pub mod Renamed
+pub mod Planned
+pub mod inner
