@@ -1,0 +1,13 @@
+pub mod Fits
+pub mod Questions
+pub mod Found
+pub mod References
+pub mod NamedTypes
+pub mod Members
+pub mod EnumNames
+pub mod Parameters
+pub mod Attributes
+pub mod EnumWidths
+pub mod Machine
+pub mod Inquiry
+pub mod inner
