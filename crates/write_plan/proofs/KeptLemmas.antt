@@ -21,7 +21,7 @@ use Rattle.write_plan.specs.Seen.{fault_seen, value_seen}
 use Rattle.write_plan.specs.declared.kept.Kept.{Kept}
 use Rattle.write_plan.specs.declared.refusal.WriteRefusal.{WriteRefusal}
 use Rattle.write_plan.specs.declared.refusal.WriteRefusal.TheVariants.{Reached, NotPureIl, Twice, Dangling, TooMany, Unfit, BranchTooFar, BodyTooLarge, TooLarge, NoMemory}
-use Rattle.write_plan.specs.inner.Taken.{IsKept, KeepsOne, Takes, value_kept}
+use Rattle.write_plan.specs.inner.Taken.{IsTaken, KeepsOne, Takes, value_kept}
 
 -- the test of the code is that of the definitions
 pub key_test : (k : Key) → (eq-value).it k ≡ same_key k
@@ -99,7 +99,7 @@ value_more see key seen keys before now k is was h =
     by false e =
         rw (was, key_turned k key, e, or_false (list_any (same_key k) keys)) refl
 
-pub takes_one : (see : Key → Look) (old new : Kept) (key : Key) (seen : Look) (r : Result (Unit {0}) WriteRefusal) → see key ≡ seen → IsKept see old
+pub takes_one : (see : Key → Look) (old new : Kept) (key : Key) (seen : Look) (r : Result (Unit {0}) WriteRefusal) → see key ≡ seen → IsTaken see old
     → OnOk r (KeepsOne key seen old new) → Refuses (option_map Reached (fault_seen seen)) r → Takes see old (key ∷ []) new r
 takes_one see old new key seen (Ok u) is kept one fine = (
   one.0,
@@ -119,19 +119,15 @@ kept_put old new key value put k =
     ap (λ (test : Key → Bool). lookup test new) (sym (key_test k)) ∙ put k
     ∙ ap₂ (λ (b : Bool) (test : Key → Bool). cond b (Some value) (lookup test old)) (eq_is_same key k) (key_test k)
 
-pub kept_same : {A : Type 0} (b : Bool) (x : Option A) → x ≡ cond b (option_or None x) x
-kept_same true x = refl
-kept_same false x = refl
-
 -- keys one after the other
 
 abbrev pub TakesOk : (Key → Look) → Kept → List Key → Kept → Type 0
-TakesOk see old keys new = (new.keys ≡ old.keys ++ keys) × IsKept see new
+TakesOk see old keys new = (new.keys ≡ old.keys ++ keys) × IsTaken see new
 
-pub takes_none : (see : Key → Look) (w : Kept) → IsKept see w → TakesOk see w [] w
+pub takes_none : (see : Key → Look) (w : Kept) → IsTaken see w → TakesOk see w [] w
 takes_none see w kept = (sym (append-nil w.keys), kept)
 
-pub takes_nothing : (see : Key → Look) (w : Kept) (r : Result (Unit {0}) WriteRefusal) → IsKept see w → Refuses None r → Takes see w [] w r
+pub takes_nothing : (see : Key → Look) (w : Kept) (r : Result (Unit {0}) WriteRefusal) → IsTaken see w → Refuses None r → Takes see w [] w r
 takes_nothing see w (Ok u) kept fine = takes_none see w kept
 takes_nothing see w (Err e) kept bad = bad
 

@@ -19,7 +19,7 @@ use Rattle.write_plan.specs.declared.met.MetRows.{MetRows}
 use Rattle.write_plan.specs.declared.refusal.WriteRefusal.{WriteRefusal}
 use Rattle.write_plan.specs.declared.refusal.WriteRefusal.TheVariants.{Reached, Twice, TooMany, Unfit}
 use Rattle.write_plan.specs.Planned.{Planned, PlanMade, kept_value}
-use Rattle.write_plan.specs.inner.Taken.{IsKept, met_rows, value_kept, walked_so}
+use Rattle.write_plan.specs.inner.Taken.{IsTaken, met_rows, value_kept, walked_so}
 use Rattle.write_plan.proofs.TableLemmas.{same_walked}
 use Rattle.write_plan.proofs.KeptLemmas.{TakesOk, or_first, or_none, or_second, refused_to}
 
@@ -111,7 +111,7 @@ few_rows value w none table small =
 
 -- before anything was taken
 
-pub kept_empty : (see : Key → Look) (w : Kept) → w.keys ≡ [] → w.values.entries ≡ [] → IsKept see w
+pub kept_empty : (see : Key → Look) (w : Kept) → w.keys ≡ [] → w.values.entries ≡ [] → IsTaken see w
 kept_empty see w keys entries = record {
   values = λ k. ap (λ es. kept_value es k) entries ∙ sym (ap (λ ks. value_among see ks k) keys);
   sound = ap (first_fault see) keys;

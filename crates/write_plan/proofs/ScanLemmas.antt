@@ -1,10 +1,9 @@
 -- Searches that go over a list from the front and stop at the first item of which something is made.
-use Rattle.std.proofs.Common.{◌≡◌, ◌∙◌, sym, ap, refl, ℕ, ◌<◌, ◌≤◌, ◌+◌, Bool, true, false, cond, List, [], ◌∷◌, ◌++◌, length, drop, get_or, Option, Some, None, arith}
+use Rattle.std.proofs.Common.{◌≡◌, ◌∙◌, sym, ap, refl, ℕ, ◌<◌, ◌+◌, Bool, true, false, cond, List, ◌∷◌, ◌++◌, length, drop, get_or, Option, Some, None, arith}
 use Rattle.std.specs.Prelude.{◌||◌}
 use Rattle.std.specs.List.{find, flat_map, list_any, range_with_len}
 use Rattle.std.proofs.lemmas.List.FromFn.{get_or-range_with_len, length-range_with_len}
 use Rattle.std.specs.Option.{option_or}
-use Rattle.std.proofs.lemmas.List.{at_drop_all}
 use Rattle.std.proofs.lemmas.List.Folds.{find-append}
 use Rattle.write_plan.proofs.KeptLemmas.{item_at}
 
@@ -17,9 +16,6 @@ module _ {X A : Type 0} (scan : List X → Option A) (made : X → Option A) (st
 
   pub scan_here : (x : X) (a : A) → i < length xs → x ≡ get_or xs i x → scan (drop i xs) ≡ scan xs → made x ≡ Some a → Some a ≡ scan xs
   scan_here x a h is so_far found = ap (λ o. option_or o (scan (drop (i + 1) xs))) (sym found) ∙ at_item x h is so_far
-
-  pub scan_end : length xs ≤ i → scan [] ≡ None → scan (drop i xs) ≡ scan xs → None ≡ scan xs
-  scan_end h none so_far = sym none ∙ sym (at_drop_all scan xs i h) ∙ so_far
 
 -- what `find` makes of an item
 abbrev pub passed : {X : Type 0} → (X → Bool) → X → Option X

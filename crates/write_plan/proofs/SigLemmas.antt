@@ -137,9 +137,3 @@ new_named lists t = by (position (same_token t) (rows_in lists t.table))
     by (Some place) small e =
         tagged (nat_lt (suc place) (2 ^ 24)) (tag_of t.table) (λ tag. suc place * 4 + tag) (is_tagged (nat_lt t.rid (2 ^ 24)) (tag_of t.table) (λ tag. t.rid * 4 + tag) e)
         (grind (arith, nat_tests))
-
-pub named_more : (old new : List Token) (t u : Token) → (list_all names_type old ≡ true → list_all names_type new ≡ true) → (names_type t ≡ true → names_type u ≡ true)
-    → list_all names_type (old ++ t ∷ []) ≡ true → list_all names_type (new ++ u ∷ []) ≡ true
-named_more old new t u front last e =
-    let s = both (list_all names_type old) (names_type t && true) (sym (list_all-append names_type old (t ∷ [])) ∙ e) in
-    list_all-append names_type new (u ∷ []) ∙ and (list_all names_type new) (names_type u && true) (front s.0) (and (names_type u) true (last (both (names_type t) true s.1).0) refl)

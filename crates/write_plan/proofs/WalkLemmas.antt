@@ -1,5 +1,5 @@
 -- The walk, table by table and row by row.
-use Rattle.std.proofs.Common.{◌≡◌, ◌∙◌, sym, ap, subst, refl, ℕ, zero, suc, ◌<◌, ◌≤◌, ◌+◌, Bool, true, false, cond, not, List, [], ◌∷◌, ◌++◌, map, length, take, drop, get_or, Option, None, is_some, append_assoc, append-nil, OnOk, arith}
+use Rattle.std.proofs.Common.{◌≡◌, ◌∙◌, sym, ap, subst, refl, ℕ, zero, suc, ◌<◌, ◌≤◌, ◌+◌, Bool, true, false, cond, List, [], ◌∷◌, ◌++◌, map, length, take, drop, get_or, Option, None, is_some, append_assoc, append-nil, OnOk, arith}
 use Rattle.std.specs.Prelude.{◌||◌, ◌==◌, Result, Ok, Err, fold}
 use Rattle.std.specs.List.{filter, flat_map, list_any, list_all}
 use Rattle.std.proofs.lemmas.Grind.{flat_map-append}
@@ -21,13 +21,14 @@ use Rattle.md_schema.specs.Tables.{nested_class}
 use Rattle.md_schema.specs.declared.link.Link.TheVariants.{Nested}
 use Rattle.node_model.specs.declared.look.Look.{Look}
 use Rattle.node_model.specs.inner.KeyEquality.{key_self}
-use Rattle.write_plan.specs.GraphWalk.{Met, Walked, list_keys, member_met, met_one, nested_keys, own_keys, row_met, table_keys, table_walked, value_among, walk_tables}
+use Rattle.write_plan.specs.GraphWalk.{graph_walk, Met, Walked, list_keys, member_met, met_one, nested_keys, own_keys, row_met, table_keys, table_walked, value_among, walk_tables}
 use Rattle.write_plan.specs.Seen.{is_seen, list_members, value_seen}
 use Rattle.write_plan.specs.declared.kept.Kept.{Kept}
+use Rattle.write_plan.specs.declared.met.MetRows.{MetRows}
 use Rattle.write_plan.specs.Refusals.{Refused, first_fault}
 use Rattle.write_plan.specs.declared.refusal.WriteRefusal.{WriteRefusal}
 use Rattle.write_plan.specs.declared.refusal.WriteRefusal.TheVariants.{Reached}
-use Rattle.write_plan.specs.inner.Taken.{Takes, new_keys, row_new_keys, value_kept}
+use Rattle.write_plan.specs.inner.Taken.{Takes, new_keys, row_new_keys, value_kept, walked_so}
 use Rattle.write_plan.proofs.KeptLemmas.{TakesOk, front_more, split_at, takes_more, takes_then}
 
 -- a member more
@@ -213,17 +214,12 @@ module _ (see : Key → Look) (ts : List ℕ) (i t : ℕ) (w0 w : Walked) (a b :
       subst (λ ks. Refused (option_map Reached (first_fault see ks)) e) (sym (ap (λ (v : Walked). v.keys) whole ∙ grown))
       (takes_more see (w.keys ++ table_keys see w t) rest e (takes_then see a b b w.keys (table_keys see w t) (Err e) took stopped))
 
-pub not_true : (b : Bool) → not b ≡ true → b ≡ false
-not_true true e = sym e
-not_true false e = refl
-
-pub not_false : (b : Bool) → not b ≡ false → b ≡ true
-not_false true e = refl
-not_false false e = sym e
-
 pub always_on_ok : {A E : Type 0} {P : Type 0} (r : Result A E) → P → OnOk r P
 always_on_ok (Ok a) p = p
 always_on_ok (Err e) p = tt
+
+pub walked_keys : (see : Key → Look) (a b : Kept) (m : MetRows) → a.keys ≡ [] → walked_so b m ≡ graph_walk see → b.keys ≡ a.keys ++ (graph_walk see).keys
+walked_keys see a b m none walked = ap (λ (w : Walked). w.keys) walked ∙ sym (ap (λ ks. ks ++ (graph_walk see).keys) none)
 
 -- what follows from keys that were taken, where the call did not fail
 pub on_ok_to : {P : Type 0} (see : Key → Look) (a b : Kept) (ks : List Key) (r : Result (Unit {0}) WriteRefusal) → (TakesOk see a ks b → P) → Takes see a ks b r → OnOk r P

@@ -1,7 +1,7 @@
 -- Why a graph is not written, as far as that is known before anything is laid out: the refusals in the order in which
 -- they are tried.
-use Rattle.std.specs.Prelude.{◌≡◌, ℕ, ◌-◌, ◌^◌, Bool, true, false, not, List, [], ◌∷◌, Option, Some, None, ◌==◌, ◌||◌, ◌&&◌}
-use Rattle.std.specs.Prelude.{Result, Ok, Err, bit_and, nat_lt, length, slice_get, if◌then◌else◌}
+use Rattle.std.specs.Prelude.{◌≡◌, ℕ, ◌-◌, ◌^◌, Bool, true, false, not, List, [], ◌∷◌, Option, Some, None}
+use Rattle.std.specs.Prelude.{◌==◌, ◌||◌, ◌&&◌, Result, Ok, Err, bit_and, nat_lt, length, slice_get, if◌then◌else◌}
 use Rattle.std.specs.List.{list_any, range_with_len}
 use Rattle.std.specs.Option.{option_map, option_map_or}
 use Rattle.cil_base.specs.Steps.{◌>>=◌}

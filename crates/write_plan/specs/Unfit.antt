@@ -57,7 +57,8 @@ module _ (value : Key → Option Value) where
 
   abbrev pub first_class_size : List Token → Option ℕ
   first_class_size [] = None
-  first_class_size (layout ∷ more) = row_held (value (Row layout)) >>= λ row. Some (number_named (codes "ClassSize") row)
+  first_class_size (layout ∷ more) =
+      row_held (value (Row layout)) >>= λ row. Some (number_named (codes "ClassSize") row)
 
   -- the bytes of a value type: the ClassSize of the first ClassLayout row of a TypeDef
   abbrev pub class_size : Token → Option ℕ
@@ -98,4 +99,5 @@ module _ (value : Key → Option Value) where
   abbrev pub unfit : List Token → Option Token
   unfit rows =
       option_or (find is_unfit_method (rows_of_table method_def rows))
-      (option_or (find is_unfit_data (rows_of_table field_rva rows)) (find is_unfit_resource (rows_of_table manifest_resource rows)))
+      (option_or (find is_unfit_data (rows_of_table field_rva rows))
+      (find is_unfit_resource (rows_of_table manifest_resource rows)))

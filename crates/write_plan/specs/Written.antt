@@ -42,7 +42,8 @@ rows_in lists table = unwrap_or (slice_get lists table) []
 -- a row has its place in its table's list for a number, counted from 1
 abbrev pub token_renumbered : List (List Token) → Token → Option Token
 token_renumbered lists t =
-    option_map (λ (place : ℕ). record { table = t.table; rid = suc place }) (position (same_token t) (rows_in lists t.table))
+    option_map (λ (place : ℕ). record { table = t.table; rid = suc place })
+    (position (same_token t) (rows_in lists t.table))
 
 -- the token by its new number; any other stays as it is, as the root does
 abbrev pub new_token : List (List Token) → Token → Token
@@ -83,7 +84,8 @@ in_link_order value lists table rows =
 
 -- the list of one table more
 abbrev pub table_written : (Key → Option Value) → List Token → List (List Token) → ℕ → List (List Token)
-table_written value rows lists table = slice_set lists table (in_link_order value lists table (rows_of_table table rows))
+table_written value rows lists table =
+    slice_set lists table (in_link_order value lists table (rows_of_table table rows))
 
 -- the lists of all tables, by their numbers. A table stands in the walk behind those that its link column names
 unfoldable pub written_lists : (Key → Option Value) → List Token → List (List Token)

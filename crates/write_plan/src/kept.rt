@@ -36,7 +36,7 @@ fn put<K: Eq + Hash + Drop, V: Drop>(
 
 impl Kept {
     /// No keys.
-    pub fn new(alloc: Global) -> Kept
+    pub(crate) fn new(alloc: Global) -> Kept
         ensures keys { result.keys ≡ [] }
         ensures values { result.values.entries ≡ [] }
     {
@@ -47,7 +47,7 @@ impl Kept {
     }
 
     /// What a key holds, if it was taken.
-    pub fn value(&self, key: &Key) -> Option<&Value>
+    pub(crate) fn value(&self, key: &Key) -> Option<&Value>
         ensures { option_copied result ≡ value_kept self.now key.now }
     {
         self.values.get(key)
@@ -76,7 +76,7 @@ impl Kept {
     }
 
     /// Takes a key with what is seen there. `Reached` comes exactly where that is a fault.
-    pub fn keep(&mut self, key: &Key, seen: Look) -> Result<(), WriteRefusal>
+    pub(crate) fn keep(&mut self, key: &Key, seen: Look) -> Result<(), WriteRefusal>
         ensures kept { OnOk result (KeepsOne key.now seen self.old self.new) }
         ensures refused { Refuses (option_map Reached (fault_seen seen)) result }
     {

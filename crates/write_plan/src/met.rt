@@ -22,7 +22,7 @@ pub(crate) struct MetRows {
 
 impl MetRows {
     /// No rows.
-    pub fn new(alloc: Global) -> MetRows
+    pub(crate) fn new(alloc: Global) -> MetRows
         ensures met { IsMet result }
         ensures rows { met_rows result ≡ record { all = []; rows = []; again = [] } }
     {
@@ -35,7 +35,7 @@ impl MetRows {
     }
 
     /// Whether a row is kept.
-    pub fn has(&self, token: Token) -> bool
+    pub(crate) fn has(&self, token: Token) -> bool
         requires { IsMet self.now }
         ensures { result ≡ list_any (same_token token) self.now.all }
     {
@@ -43,7 +43,7 @@ impl MetRows {
     }
 
     /// Begins with another table.
-    pub fn begin(&mut self, alloc: Global)
+    pub(crate) fn begin(&mut self, alloc: Global)
         requires { IsMet self.old }
         ensures met { IsMet self.new }
         ensures rows { met_rows self.new ≡ record { all = self.old.all; rows = []; again = self.old.again } }
@@ -52,7 +52,7 @@ impl MetRows {
     }
 
     /// Keeps a row that is new.
-    pub fn meet_new(&mut self, token: Token) -> Result<(), NoMemory>
+    pub(crate) fn meet_new(&mut self, token: Token) -> Result<(), NoMemory>
         requires met { IsMet self.old }
         requires new { list_any (same_token token) self.old.all ≡ false }
         ensures met { OnOk result (IsMet self.new) }
@@ -65,7 +65,7 @@ impl MetRows {
     }
 
     /// Notes a row that is met once more.
-    pub fn meet_again(&mut self, token: Token) -> Result<(), WriteRefusal>
+    pub(crate) fn meet_again(&mut self, token: Token) -> Result<(), WriteRefusal>
         requires met { IsMet self.old }
         requires known { list_any (same_token token) self.old.all ≡ true }
         ensures met { OnOk result (IsMet self.new) }

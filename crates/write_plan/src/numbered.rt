@@ -68,7 +68,8 @@ impl NumberedRows {
 
     /// The token of a row by its new number. `None` exactly where it is none of the rows.
     pub fn token_renumbered(&self, token: Token) -> Option<Token>
-        ensures { result ≡ option_map (λ (place : ℕ). record { table = token.table; rid = suc place }) (position (same_token token) self.now) }
+        ensures { result ≡ option_map (λ (place : ℕ). record { table = token.table; rid = suc place })
+            (position (same_token token) self.now) }
     {
         let _len = self.places.len();
         let place = self.places.get_index_of(&token)?;

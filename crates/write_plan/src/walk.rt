@@ -7,9 +7,11 @@ ghost use Rattle.md_schema.specs.Entry.{columns_of};
 ghost use Rattle.node_model.specs.KeyKinds.{has_kind};
 ghost use Rattle.node_model.specs.Keys.{same_token};
 ghost use Rattle.node_model.specs.declared.key.Key.TheVariants.{Row};
-ghost use Rattle.write_plan.specs.GraphWalk.{graph_walk, member_met, met_one, own_keys, row_met, table_keys, table_walked};
+ghost use Rattle.write_plan.specs.GraphWalk.{graph_walk, member_met, met_one, own_keys, row_met, table_keys};
+ghost use Rattle.write_plan.specs.GraphWalk.{table_walked};
 ghost use Rattle.write_plan.specs.Seen.{is_seen, list_members, seen_in};
-ghost use Rattle.write_plan.specs.inner.Taken.{IsKept, IsMet, Takes, met_rows, new_keys, row_new_keys, value_kept, walked_so};
+ghost use Rattle.write_plan.specs.inner.Taken.{IsMet, IsTaken, Takes, met_rows, new_keys, row_new_keys, value_kept};
+ghost use Rattle.write_plan.specs.inner.Taken.{walked_so};
 
 use crate::kept::Kept;
 use crate::met::MetRows;
@@ -44,7 +46,7 @@ fn take_key<G: Graph>(
     key: &Key,
 ) -> Result<(), WriteRefusal>
     requires kind { has_kind key.now ≡ true }
-    requires kept { IsKept (seen_in (G.bytes graph.now) (G.edits graph.now)) kept.old }
+    requires kept { IsTaken (seen_in (G.bytes graph.now) (G.edits graph.now)) kept.old }
     ensures { Takes (seen_in (G.bytes graph.now) (G.edits graph.now)) kept.old (key.now ∷ []) kept.new result }
 {
     match graph.look(alloc, key) {
@@ -60,7 +62,7 @@ fn take_known<G: Graph>(
     kept: &mut Kept,
     key: &Key,
 ) -> Result<(), WriteRefusal>
-    requires { IsKept (seen_in (G.bytes graph.now) (G.edits graph.now)) kept.old }
+    requires { IsTaken (seen_in (G.bytes graph.now) (G.edits graph.now)) kept.old }
     ensures { Takes (seen_in (G.bytes graph.now) (G.edits graph.now)) kept.old (filter has_kind (key.now ∷ [])) kept.new
         result }
 {
@@ -77,7 +79,7 @@ fn take_keys<G: Graph>(
     kept: &mut Kept,
     keys: &[Key],
 ) -> Result<(), WriteRefusal>
-    requires { IsKept (seen_in (G.bytes graph.now) (G.edits graph.now)) kept.old }
+    requires { IsTaken (seen_in (G.bytes graph.now) (G.edits graph.now)) kept.old }
     ensures { Takes (seen_in (G.bytes graph.now) (G.edits graph.now)) kept.old (filter has_kind keys.now) kept.new
         result }
 {
@@ -97,7 +99,7 @@ fn take_new<G: Graph>(
     seen: Look,
 ) -> Result<(), WriteRefusal>
     requires seen { seen ≡ seen_in (G.bytes graph.now) (G.edits graph.now) (Row token) }
-    requires kept { IsKept (seen_in (G.bytes graph.now) (G.edits graph.now)) kept.old }
+    requires kept { IsTaken (seen_in (G.bytes graph.now) (G.edits graph.now)) kept.old }
     requires met { IsMet met.old }
     requires new { list_any (same_token token) met.old.all ≡ false }
     ensures met { OnOk result (IsMet met.new × (met_rows met.new ≡ met_one (met_rows met.old) token)) }
@@ -124,7 +126,7 @@ fn take_seen<G: Graph>(
     seen: Look,
 ) -> Result<(), WriteRefusal>
     requires seen { seen ≡ seen_in (G.bytes graph.now) (G.edits graph.now) (Row token) }
-    requires kept { IsKept (seen_in (G.bytes graph.now) (G.edits graph.now)) kept.old }
+    requires kept { IsTaken (seen_in (G.bytes graph.now) (G.edits graph.now)) kept.old }
     requires met { IsMet met.old }
     ensures is_met { OnOk result (IsMet met.new) }
     ensures met { OnOk result (met_rows met.new
@@ -150,7 +152,7 @@ fn take_row<G: Graph>(
     token: Token,
 ) -> Result<(), WriteRefusal>
     requires kind { is_some (columns_of token.table) ≡ true }
-    requires kept { IsKept (seen_in (G.bytes graph.now) (G.edits graph.now)) kept.old }
+    requires kept { IsTaken (seen_in (G.bytes graph.now) (G.edits graph.now)) kept.old }
     requires met { IsMet met.old }
     ensures is_met { OnOk result (IsMet met.new) }
     ensures met { OnOk result (met_rows met.new
@@ -174,7 +176,7 @@ fn take_member<G: Graph>(
     token: Token,
 ) -> Result<(), WriteRefusal>
     requires kind { is_some (columns_of table) ≡ true }
-    requires kept { IsKept (seen_in (G.bytes graph.now) (G.edits graph.now)) kept.old }
+    requires kept { IsTaken (seen_in (G.bytes graph.now) (G.edits graph.now)) kept.old }
     requires met { IsMet met.old }
     ensures is_met { OnOk result (IsMet met.new) }
     ensures met { OnOk result (met_rows met.new
@@ -198,7 +200,7 @@ fn take_members<G: Graph>(
     members: &[Token],
 ) -> Result<(), WriteRefusal>
     requires kind { is_some (columns_of table) ≡ true }
-    requires kept { IsKept (seen_in (G.bytes graph.now) (G.edits graph.now)) kept.old }
+    requires kept { IsTaken (seen_in (G.bytes graph.now) (G.edits graph.now)) kept.old }
     requires met { IsMet met.old }
     requires begun { met.old.rows ≡ [] }
     ensures is_met { OnOk result (IsMet met.new) }
@@ -234,13 +236,14 @@ fn take_table<G: Graph>(
     table: u8,
 ) -> Result<(), WriteRefusal>
     requires kind { is_some (columns_of table) ≡ true }
-    requires kept { IsKept (seen_in (G.bytes graph.now) (G.edits graph.now)) kept.old }
+    requires kept { IsTaken (seen_in (G.bytes graph.now) (G.edits graph.now)) kept.old }
     requires met { IsMet met.old }
     ensures is_met { OnOk result (IsMet met.new) }
     ensures walked { OnOk result (walked_so kept.new met.new
         ≡ table_walked (seen_in (G.bytes graph.now) (G.edits graph.now)) (walked_so kept.old met.old) table) }
     ensures keys { Takes (seen_in (G.bytes graph.now) (G.edits graph.now)) kept.old
-        (table_keys (seen_in (G.bytes graph.now) (G.edits graph.now)) (walked_so kept.old met.old) table) kept.new result }
+        (table_keys (seen_in (G.bytes graph.now) (G.edits graph.now)) (walked_so kept.old met.old) table) kept.new
+        result }
 {
     let found = list_keys(alloc, &met.all, table)?;
     let nested = nested_keys(alloc, &met.all, table)?;
@@ -259,7 +262,7 @@ pub(crate) fn walk<G: Graph>(
     kept: &mut Kept,
     met: &mut MetRows,
 ) -> Result<(), WriteRefusal>
-    requires kept { IsKept (seen_in (G.bytes graph.now) (G.edits graph.now)) kept.old }
+    requires kept { IsTaken (seen_in (G.bytes graph.now) (G.edits graph.now)) kept.old }
     requires met { IsMet met.old }
     requires begun { walked_so kept.old met.old ≡ record { keys = []; all = []; again = [] } }
     ensures is_met { OnOk result (IsMet met.new) }

@@ -22,7 +22,7 @@ abbrev pub value_kept : Kept → Key → Option Value
 value_kept w k = kept_value w.values.entries k
 
 -- what was taken is what is seen there, and none of it is a fault
-pub record IsKept (see : Key → Look) (w : Kept) : Type 0 where
+pub record IsTaken (see : Key → Look) (w : Kept) : Type 0 where
   pub values : (k : Key) → value_kept w k ≡ value_among see w.keys k
   pub sound : first_fault see w.keys ≡ None
 
@@ -30,11 +30,12 @@ pub record IsKept (see : Key → Look) (w : Kept) : Type 0 where
 abbrev pub KeepsOne : Key → Look → Kept → Kept → Type 0
 KeepsOne key seen old new =
     (new.keys ≡ old.keys ++ key ∷ [])
-    × ((k : Key) → value_kept new k ≡ (if same_key key k then option_or (value_seen seen) (value_kept old k) else value_kept old k))
+    × ((k : Key) → value_kept new k
+    ≡ (if same_key key k then option_or (value_seen seen) (value_kept old k) else value_kept old k))
 
 -- these keys more were taken, or the first fault at them was reached
 abbrev pub Takes : (Key → Look) → Kept → List Key → Kept → Result (Unit {0}) WriteRefusal → Type 0
-Takes see old keys new (Ok _) = (new.keys ≡ old.keys ++ keys) × IsKept see new
+Takes see old keys new (Ok _) = (new.keys ≡ old.keys ++ keys) × IsTaken see new
 Takes see old keys new (Err refusal) = Refused (option_map Reached (first_fault see keys)) refusal
 
 -- the rows that were met, as the definitions have them; they are looked up in a set beside the list

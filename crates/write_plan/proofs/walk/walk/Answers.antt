@@ -9,7 +9,7 @@ use Rattle.write_plan.specs.declared.refusal.WriteRefusal.TheVariants.{Reached}
 use Rattle.write_plan.specs.inner.Taken.{walked_so}
 use Rattle.write_plan.proofs.KeptLemmas.{TakesOk, stopped_on, takes_more}
 use Rattle.write_plan.proofs.TableLemmas.{same_walked}
-use Rattle.write_plan.proofs.WalkLemmas.{keys_grow, tables_next, tables_stop, walk_end, walked_to, walk_known}
+use Rattle.write_plan.proofs.WalkLemmas.{keys_grow, tables_next, tables_stop, walk_end, walked_keys, walked_to, walk_known}
 use Rattle.write_plan.proofs.walk.walk.Goals as goal
 
 pub loop-table-init : goal.loop-table-init
@@ -70,7 +70,7 @@ returns-clause-walked g c =
 
 pub returns-clause-keys : goal.returns-clause-keys
 returns-clause-keys g c =
-    let see = seen_in (g.G.Graph.bytes c.args.graph.now) (g.G.Graph.edits c.args.graph.now) in
-    let none = ap (λ (w : Walked). w.keys) c.requires.begun in
-    let all = ap (λ (w : Walked). w.keys) (returns-clause-walked g c) in
-    (all ∙ sym (ap (λ ks. ks ++ (graph_walk see).keys) none), c.loop-table.invariant.1)
+    let see = seen_in (g.G.Graph.bytes c.args.graph.now) (g.G.Graph.edits c.args.graph.now) in (
+      walked_keys see c.args.kept.now c.loop-table.kept c.loop-table.met (ap (λ (w : Walked). w.keys) c.requires.begun) (returns-clause-walked g c),
+      c.loop-table.invariant.1,
+    )
