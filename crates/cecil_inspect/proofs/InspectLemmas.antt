@@ -15,7 +15,7 @@ use Rattle.cecil_inspect.specs.declared.status.Status.{Status}
 use Rattle.cecil_inspect.specs.declared.status.Status.TheVariants as ends
 use Rattle.cecil_inspect.specs.declared.status.FileCause.TheVariants.{Refused}
 
-not_longer : (n : ℕ) → n ≤ 2 ^ 26 → nat_lt (2 ^ 26) n ≡ false
+pub not_longer : (n : ℕ) → n ≤ 2 ^ 26 → nat_lt (2 ^ 26) n ≡ false
 not_longer n le = grind (arith, nat_tests)
 
 -- the refusal of a read file is one with which reading may end

@@ -1,3 +1,3 @@
-mod InspectLemmas
-mod LimitLemmas
+pub mod InspectLemmas
+pub mod LimitLemmas
 mod StandardFacts

@@ -37,12 +37,13 @@ CallsFor None name status = status ≡ ends.File name Missing
 CallsFor (Some b) name status = LengthCallsFor (nat_lt (2 ^ 26) (length b)) b name status
 
 -- the status of a run over the file of a name is the one that the file calls for, but for faults and want of memory;
--- where the folder does not tell its files, a status that names a file names this one
+-- where the folder does not tell its files, a status that names a file names this one, and none speaks of a job
 abbrev pub Answers : Option (List NamedFile) → List ℕ → Status → Type 0
 Answers (Some files) name ends.ReadFault = Unit {0}
 Answers (Some files) name ends.NoMemory = Unit {0}
 Answers (Some files) name ends.WriteFault = CallsFor (content_of files name) name ends.Ok
 Answers (Some files) name status = CallsFor (content_of files name) name status
+Answers None name (ends.Job refusal) = ⊥
 Answers None name (ends.File other (Refused refusal)) = (other ≡ name) × IsToldRefusal refusal
 Answers None name (ends.File other _) = other ≡ name
 Answers None name _ = Unit {0}

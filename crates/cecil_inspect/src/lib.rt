@@ -15,5 +15,6 @@ mod words;
 
 pub use node_read::OpenRefusal;
 pub use promise::inspect_sound;
-pub use run::inspect;
+pub use run::{MAX_IMAGE_LENGTH, file_status, inspect, refused_status, send};
 pub use status::{FileCause, Status, status_line};
+pub use words::is_name;

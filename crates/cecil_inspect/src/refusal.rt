@@ -1,8 +1,10 @@
-ghost use Rattle.std.specs.Prelude.{◌≡◌, ◌++◌, OnOk, codes};
+ghost use Rattle.std.specs.Prelude.{◌≡◌, ◌∷◌, ◌++◌, OnOk, codes};
 ghost use Rattle.std.specs.Fmt.{decimal};
-ghost use Rattle.cecil_inspect.specs.Statuses.{pe_refusal_text, refusal_text, tables_refusal_text};
+ghost use Rattle.cecil_inspect.specs.Statuses.{job_refusal_text, pe_refusal_text, refusal_text, tables_refusal_text};
 
 use cil_base::{Bytes, NoMemory};
+use dump_text::add_decimal;
+use job_text::JobRefusal;
 use md_tables::TablesRefusal;
 use node_read::OpenRefusal;
 use pe_image::PeRefusal;
@@ -11,9 +13,8 @@ use pe_image::PeRefusal;
 fn add_numbered(text: &mut Bytes, name: &[u8], number: u64) -> Result<(), NoMemory>
     ensures { OnOk result (text.new ≡ text.old ++ (name.now ++ decimal number ++ codes ")")) }
 {
-    let digits = format!(in text.allocator(); "{number}")?;
     text.extend(name)?;
-    text.extend(digits.as_bytes())?;
+    add_decimal(text, number)?;
     text.extend(b")")
 }
 
@@ -56,5 +57,35 @@ pub(crate) fn add_refusal(text: &mut Bytes, refusal: OpenRefusal) -> Result<(), 
         OpenRefusal::Pe(refusal) => add_pe(text, refusal),
         OpenRefusal::Tables(refusal) => add_tables(text, refusal),
         OpenRefusal::NoMemory => Ok(()),
+    }
+}
+
+/// Adds that a count passes its limit.
+fn add_over_limit(text: &mut Bytes, count: u64) -> Result<(), NoMemory>
+    ensures { OnOk result (text.new ≡ text.old ++ (codes "over the limit " ++ decimal count)) }
+{
+    text.extend(b"over the limit ")?;
+    add_decimal(text, count)
+}
+
+/// Adds which value in the place of a command is none.
+fn add_no_command(text: &mut Bytes, actor: u32, command: u32) -> Result<(), NoMemory>
+    ensures { OnOk result (text.new ≡ text.old ++ (codes "no command at " ++ decimal actor ++ 0x2e ∷ decimal command)) }
+{
+    text.extend(b"no command at ")?;
+    add_decimal(text, u64::from(actor))?;
+    text.push(b'.')?;
+    add_decimal(text, u64::from(command))
+}
+
+/// Adds why a job file is none.
+pub(crate) fn add_job_refusal(text: &mut Bytes, refusal: JobRefusal) -> Result<(), NoMemory>
+    ensures { OnOk result (text.new ≡ text.old ++ job_refusal_text refusal) }
+{
+    match refusal {
+        JobRefusal::NotJson => text.extend(b"not JSON"),
+        JobRefusal::Shape => text.extend(b"not a job"),
+        JobRefusal::OverLimit(count) => add_over_limit(text, count),
+        JobRefusal::NotACommand { actor, command } => add_no_command(text, actor, command),
     }
 }

@@ -12,11 +12,11 @@ use cil_outside::{Folder, Got, Outlet, Sent};
 use node_read::{OpenRefusal, image_is_not_refused};
 use std::alloc::Global;
 
-/// The greatest length of a file that is read, in bytes.
-const MAX_LENGTH: u64 = 0x0400_0000;
+/// The greatest length of an image that is read, in bytes.
+pub const MAX_IMAGE_LENGTH: u64 = 0x0400_0000;
 
 /// The status of a file that could not be taken.
-fn refusal(alloc: Global, name: &str, cause: FileCause) -> Status
+pub fn file_status(alloc: Global, name: &str, cause: FileCause) -> Status
     ensures { (result ≡ Status.File name.now cause) ⊎ (result ≡ Status.NoMemory) }
 {
     match List::from_slice(alloc, name.as_bytes()) {
@@ -26,12 +26,12 @@ fn refusal(alloc: Global, name: &str, cause: FileCause) -> Status
 }
 
 /// The status of a file that is not opened.
-fn refused(alloc: Global, name: &str, cause: OpenRefusal) -> Status
+pub fn refused_status(alloc: Global, name: &str, cause: OpenRefusal) -> Status
     ensures { IsRefused cause name.now result }
 {
     match cause {
         OpenRefusal::NoMemory => Status::NoMemory,
-        _ => refusal(alloc, name, FileCause::Refused(cause)),
+        _ => file_status(alloc, name, FileCause::Refused(cause)),
     }
 }
 
@@ -48,21 +48,21 @@ fn prepare<F: Folder>(
     ensures files { F.files folder.new ≡ F.files folder.old }
     ensures later { F.faults folder.old ≤ F.faults folder.new }
 {
-    let bytes = match folder.read(alloc, name, MAX_LENGTH) {
+    let bytes = match folder.read(alloc, name, MAX_IMAGE_LENGTH) {
         Ok(Got::Found(bytes)) => bytes,
-        Ok(Got::Missing) => return Err(refusal(alloc, name, FileCause::Missing)),
-        Ok(Got::TooLong) => return Err(refusal(alloc, name, FileCause::TooLong)),
+        Ok(Got::Missing) => return Err(file_status(alloc, name, FileCause::Missing)),
+        Ok(Got::TooLong) => return Err(file_status(alloc, name, FileCause::TooLong)),
         Ok(Got::Failed) => return Err(Status::ReadFault),
         Err(NoMemory) => return Err(Status::NoMemory),
     };
     match file_lines(alloc, bytes.into_vec(), request) {
         Ok(text) => Ok(text),
-        Err(cause) => Err(refused(alloc, name, cause)),
+        Err(cause) => Err(refused_status(alloc, name, cause)),
     }
 }
 
-/// Writes the text.
-fn send<O: Outlet>(alloc: Global, out: &mut O, text: &[u8]) -> Status
+/// Writes a text, and tells how that ended.
+pub fn send<O: Outlet>(alloc: Global, out: &mut O, text: &[u8]) -> Status
     ensures text { Sends (O.written out.old) (O.written out.new) text.now result }
     ensures write { result ≡ Status.WriteFault → Rose (O.faults out.old) (O.faults out.new) }
     ensures later { O.faults out.old ≤ O.faults out.new }

@@ -1,8 +1,9 @@
 ghost use Rattle.std.specs.Prelude.{◌≡◌, ◌++◌, IfOk, OnOk};
-ghost use Rattle.cecil_inspect.specs.Statuses.{number_of, status_text, file_text, cause_text};
+ghost use Rattle.cecil_inspect.specs.Statuses.{number_of, status_text, file_text, cause_text, job_line};
 
-use crate::refusal::add_refusal;
+use crate::refusal::{add_job_refusal, add_refusal};
 use cil_base::{Bytes, List, NoMemory, escape};
+use job_text::JobRefusal;
 use node_read::OpenRefusal;
 use std::alloc::Global;
 
@@ -13,6 +14,8 @@ pub enum Status {
     Ok,
     /// The words are not those of a command.
     Usage,
+    /// The job file is none, for this reason.
+    Job(JobRefusal),
     /// The file of this name could not be taken, for a cause that is its own.
     File(Bytes, FileCause),
     /// Reading failed.
@@ -42,6 +45,7 @@ impl Status {
         match self {
             Status::Ok => Ok(Status::Ok),
             Status::Usage => Ok(Status::Usage),
+            Status::Job(refusal) => Ok(Status::Job(*refusal)),
             Status::File(name, cause) => Ok(Status::File(name.copy()?, *cause)),
             Status::ReadFault => Ok(Status::ReadFault),
             Status::WriteFault => Ok(Status::WriteFault),
@@ -56,6 +60,7 @@ impl Status {
         match self {
             Status::Ok => 0,
             Status::Usage => 2,
+            Status::Job(_) => 3,
             Status::File(_, _) => 4,
             Status::ReadFault => 6,
             Status::WriteFault => 7,
@@ -74,11 +79,21 @@ pub fn status_line(alloc: Global, status: &Status) -> Result<Bytes, NoMemory>
             alloc,
             b"cecil: usage: dump FILE | show FILE TOKEN | run JOB | gen N",
         ),
+        Status::Job(refusal) => job_line(alloc, *refusal),
         Status::File(name, cause) => file_line(alloc, name.as_slice(), cause),
         Status::ReadFault => List::from_slice(alloc, b"cecil: read fault"),
         Status::WriteFault => List::from_slice(alloc, b"cecil: write fault"),
         Status::NoMemory => List::from_slice(alloc, b"cecil: no memory"),
     }
+}
+
+/// The line of a job file that is none.
+fn job_line(alloc: Global, refusal: JobRefusal) -> Result<Bytes, NoMemory>
+    ensures { IfOk result (λ line. line ≡ job_line refusal) }
+{
+    let mut line = List::from_slice(alloc, b"cecil: job: ")?;
+    add_job_refusal(&mut line, refusal)?;
+    Ok(line)
 }
 
 /// Adds what is said of a file, after its name.

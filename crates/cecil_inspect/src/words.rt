@@ -22,7 +22,7 @@ fn has_barred_byte(bytes: &[u8]) -> bool
 }
 
 /// Whether a text may name a file: it is not empty, not `.` or `..`, and has no `/` and no zero byte.
-fn is_name(name: &str) -> bool
+pub fn is_name(name: &str) -> bool
     ensures { result ≡ is_name name.now }
 {
     let bytes = name.as_bytes();
