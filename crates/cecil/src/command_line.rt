@@ -2,7 +2,7 @@ ghost use Rattle.std.specs.Prelude.{◌≡◌, ◌≢◌, ◌↔◌, IfOk, drop}
 ghost use Rattle.std.specs.IoError.{error_kind};
 ghost use Rattle.std.specs.Vec.Iter.{into_iter_items};
 
-use cecil_inspect::Status;
+use cecil_top::Status;
 use cil_base::NoMemory;
 use std::alloc::Global;
 use std::env::{self, Args};

@@ -6,7 +6,7 @@ ghost use Rattle.cecil_inspect.specs.Lines.{line};
 ghost use Rattle.cecil.specs.Writes.{Tells};
 
 use crate::standard_output::write_whole;
-use cecil_inspect::{Status, status_line};
+use cecil_top::{Status, status_line};
 use cil_base::NoMemory;
 use std::alloc::Global;
 use std::io::{self, Write};

@@ -6,7 +6,8 @@ mod current_folder;
 mod ending;
 mod standard_output;
 
-use cecil_inspect::{Status, inspect};
+use cecil_top::{Status, tool};
+use cil_outside::OpenGate;
 use command_line::words;
 use current_folder::CurrentFolder;
 use ending::{exit_code, tell};
@@ -21,7 +22,14 @@ fn run(rt: &HostRuntime) -> Status {
     };
     let mut folder = CurrentFolder::new(rt);
     let mut out = StandardOutput::new(rt.stdout(), rt);
-    inspect(rt.alloc(), words.as_slice(), &mut folder, &mut out)
+    tool(
+        rt,
+        rt.alloc(),
+        words.as_slice(),
+        &mut folder,
+        &mut out,
+        &OpenGate,
+    )
 }
 
 /// A fault on standard error is let go: there is no place left to tell it.

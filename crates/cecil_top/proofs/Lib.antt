@@ -10,3 +10,6 @@ pub mod EndLemmas
 pub mod CloseLemmas
 pub mod RunLemmas
 pub mod SendLemmas
+pub mod TextLemmas
+pub mod FileLemmas
+pub mod ToolLemmas

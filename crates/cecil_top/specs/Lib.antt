@@ -1,5 +1,9 @@
 pub mod Commands
 pub mod Explained
 pub mod Explains
+pub mod RunText
 pub mod Runnable
+pub mod Tool
+pub mod ToolFiles
+pub mod ToolWords
 pub mod inner

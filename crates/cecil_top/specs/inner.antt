@@ -3,3 +3,4 @@ pub mod Passes
 pub mod Actors
 pub mod Ends
 pub mod Opens
+pub mod ToolSteps

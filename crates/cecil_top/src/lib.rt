@@ -7,6 +7,8 @@
 mod actor;
 mod closing;
 mod command;
+mod images;
+mod job_file;
 mod opening;
 mod passes;
 mod record;
@@ -14,8 +16,16 @@ mod replacing;
 mod run;
 mod runnable;
 mod said;
+mod sound;
+mod text;
+mod tool;
+mod words;
 
+pub use cecil_inspect::{FileCause, Status, inspect, status_line};
 pub use record::{ActorRecord, RunRecord};
 pub use run::run_job;
 pub use runnable::can_run;
 pub use said::Said;
+pub use sound::tool_sound;
+pub use text::run_text;
+pub use tool::tool;

@@ -1,0 +1,132 @@
+-- The files of a run as they are read, one after the other.
+use Rattle.std.proofs.Common.{◌≡◌, refl, sym, subst, inl, inr, ℕ, ◌≤◌, ◌^◌, List, [], ◌∷◌, ◌++◌, arith, length, slice_get, take}
+use Rattle.std.proofs.Common.{All, Option, Some, None}
+use Rattle.std.proofs.lemmas.List.Elements.{All-cons}
+use Rattle.std.specs.Prelude.{Result, Ok, Err}
+use Rattle.cecil_inspect.proofs.InspectLemmas.{not_longer}
+use Rattle.cecil_inspect.proofs.LimitLemmas.{told}
+use Rattle.cecil_inspect.specs.Inspect.{IsContent, IsReadImage}
+use Rattle.cecil_inspect.specs.Steps.{IsRefused}
+use Rattle.cecil_inspect.specs.declared.status.FileCause.{FileCause}
+use Rattle.cecil_inspect.specs.declared.status.FileCause.TheVariants.{Missing, TooLong, Refused}
+use Rattle.cecil_inspect.specs.declared.status.Status.{Status}
+use Rattle.cecil_inspect.specs.declared.status.Status.TheVariants as ends
+use Rattle.cil_outside.specs.Folder.{FolderReads}
+use Rattle.cil_outside.specs.declared.files.NamedFile.{NamedFile}
+use Rattle.cil_outside.specs.declared.folder.Got.TheVariants as got
+use Rattle.job_text.specs.Parts.{Job}
+use Rattle.node_read.specs.Image.{IsImageFile, RefusesImage}
+use Rattle.node_read.specs.declared.image.OpenRefusal.{OpenRefusal}
+use Rattle.cecil_top.specs.ToolFiles.{AreImages, IsFirstUntaken, IsReadFile, IsReadJob, IsTaken, IsUnread, IsUntaken}
+use Rattle.cecil_top.specs.inner.ToolSteps.{EndsFile, EndsImage, EndsImages, EndsJob, EndsRun}
+
+-- what a folder found is the content of the file
+pub found_content : (files : Option (List NamedFile)) (name : List ℕ) (max : ℕ) (b : List ℕ)
+    → FolderReads files name max (got.Found b) → IsContent files name b
+found_content None name max b is = tt
+found_content (Some files) name max b is = is
+
+-- a job file that is not read ends the reading of a job,
+pub file_ends_job : (files : Option (List NamedFile)) (name : List ℕ) (status : Status)
+    → EndsFile files name (2 ^ 24) status → EndsJob files name status
+file_ends_job files name ends.Ok is = absurd is
+file_ends_job files name ends.Usage is = absurd is
+file_ends_job files name (ends.Job refusal) is = absurd is
+file_ends_job files name (ends.File other cause) is = is
+file_ends_job files name ends.ReadFault is = tt
+file_ends_job files name ends.WriteFault is = absurd is
+file_ends_job files name ends.NoMemory is = tt
+
+-- and an image that is not read that of an image
+unread_untaken : (files : Option (List NamedFile)) (name : List ℕ) (cause : FileCause)
+    → IsUnread files name (2 ^ 26) cause → IsUntaken files name cause
+unread_untaken files name Missing is = is
+unread_untaken files name TooLong is = is
+unread_untaken files name (Refused refusal) is = absurd is
+
+pub file_ends_image : (files : Option (List NamedFile)) (name : List ℕ) (status : Status)
+    → EndsFile files name (2 ^ 26) status → EndsImage files name status
+file_ends_image files name ends.Ok is = absurd is
+file_ends_image files name ends.Usage is = absurd is
+file_ends_image files name (ends.Job refusal) is = absurd is
+file_ends_image files name (ends.File other cause) is = (is.0, unread_untaken files name cause is.1)
+file_ends_image files name ends.ReadFault is = tt
+file_ends_image files name ends.WriteFault is = absurd is
+file_ends_image files name ends.NoMemory is = tt
+
+-- so does a file that is read and refused
+pub refused_ends_image : (files : Option (List NamedFile)) (name b : List ℕ) (r : OpenRefusal) (status : Status)
+    → IsReadFile files name (2 ^ 26) b → RefusesImage b r → IsRefused r name status → EndsImage files name status
+refused_ends_image files name b r status read refuses (inl refused) =
+    subst (λ s. EndsImage files name s) (sym refused.1) (
+      refl,
+      record {
+        b = b;
+        read = read;
+        told = told b r (not_longer (length b) read.short) refused.0 refuses;
+        refused = refuses;
+      },
+    )
+refused_ends_image files name b r status read refuses (inr wants) =
+    subst (λ s. EndsImage files name s) (sym wants) tt
+
+pub read_image : (files : Option (List NamedFile)) (name b : List ℕ) → IsReadFile files name (2 ^ 26) b → IsImageFile b
+    → IsReadImage files name b
+read_image files name b read image =
+    record { content = read.content; short = not_longer (length b) read.short; image = image }
+
+-- images in order, and one more
+pub images_more : (files : Option (List NamedFile)) (names bs : List (List ℕ)) (name b : List ℕ)
+    → AreImages files names bs → IsReadImage files name b → AreImages files (names ++ name ∷ []) (bs ++ b ∷ [])
+images_more files [] [] name b are is = (is, tt)
+images_more files [] (x ∷ bs) name b are is = absurd are
+images_more files (n ∷ names) [] name b are is = absurd are
+images_more files (n ∷ names) (x ∷ bs) name b are is = (are.0, images_more files names bs name b are.1 is)
+
+-- each of them is taken
+pub images_taken : (files : Option (List NamedFile)) (names bs : List (List ℕ)) → AreImages files names bs
+    → All (IsTaken files) names
+images_taken files [] [] are k d l = absurd (omega (arith, l))
+images_taken files [] (b ∷ bs) are = absurd are
+images_taken files (n ∷ names) [] are = absurd are
+images_taken files (n ∷ names) (b ∷ bs) are =
+    All-cons (IsTaken files) n names (b, are.0) (images_taken files names bs are.1)
+
+-- the first that is not ends the reading of all
+pub first_ends_images : (files : Option (List NamedFile)) (names bs : List (List ℕ)) (i : ℕ) (name : List ℕ)
+    (status : Status) → slice_get names i ≡ Some name → AreImages files (take i names) bs
+    → EndsImage files name status → EndsImages files names status
+first_ends_images files names bs i name ends.Ok at are is = absurd is
+first_ends_images files names bs i name ends.Usage at are is = absurd is
+first_ends_images files names bs i name (ends.Job refusal) at are is = absurd is
+first_ends_images files names bs i name (ends.File other cause) at are is =
+    record {
+      place = i;
+      named = subst (λ n. slice_get names i ≡ Some n) (sym is.0) at;
+      before = images_taken files (take i names) bs are;
+      untaken = subst (λ n. IsUntaken files n cause) (sym is.0) is.1;
+    }
+first_ends_images files names bs i name ends.ReadFault at are is = tt
+first_ends_images files names bs i name ends.WriteFault at are is = absurd is
+first_ends_images files names bs i name ends.NoMemory at are is = tt
+
+-- a run ends where reading its job does, or that of its images
+pub job_ends_run : (files : Option (List NamedFile)) (name : List ℕ) (status : Status)
+    → EndsJob files name status → EndsRun files name status
+job_ends_run files name ends.Ok is = absurd is
+job_ends_run files name ends.Usage is = absurd is
+job_ends_run files name (ends.Job refusal) is = is
+job_ends_run files name (ends.File other cause) is = inl is
+job_ends_run files name ends.ReadFault is = tt
+job_ends_run files name ends.WriteFault is = absurd is
+job_ends_run files name ends.NoMemory is = tt
+
+pub images_end_run : (files : Option (List NamedFile)) (name : List ℕ) (job : Job) (status : Status)
+    → IsReadJob files name job → EndsImages files job.modules status → EndsRun files name status
+images_end_run files name job ends.Ok read is = absurd is
+images_end_run files name job ends.Usage read is = absurd is
+images_end_run files name job (ends.Job refusal) read is = absurd is
+images_end_run files name job (ends.File other cause) read is = inr (job, read, is)
+images_end_run files name job ends.ReadFault read is = tt
+images_end_run files name job ends.WriteFault read is = absurd is
+images_end_run files name job ends.NoMemory read is = tt

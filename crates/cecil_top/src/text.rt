@@ -1,0 +1,196 @@
+//! The text of a run.
+ghost use Rattle.std.specs.Prelude.{◌≡◌, ◌∷◌, ◌++◌, IfOk, OnOk, codes};
+ghost use Rattle.std.specs.Fmt.{decimal};
+ghost use Rattle.cecil_inspect.specs.Lines.{line};
+ghost use Rattle.cecil_top.specs.Commands.{home_of, point_of};
+ghost use Rattle.cecil_top.specs.RunText.{actor_lines, answer_line, answer_lines, answer_place, entry_line, entry_lines};
+ghost use Rattle.cecil_top.specs.RunText.{history_line, history_lines, run_text, said_text};
+ghost use Rattle.dump_text.specs.Entries.{entry_text};
+ghost use Rattle.dump_text.specs.Outcomes.{outcome_text};
+
+use crate::record::{ActorRecord, RunRecord};
+use crate::said::Said;
+use cil_base::{Bytes, List, NoMemory};
+use dump_text::{add_decimal, add_reply, entry_text, outcome_text};
+use graph_edits::Outcome;
+use job_text::Command;
+use lazy_core::Core;
+use node_model::Entry;
+use std::alloc::Global;
+
+/// The number of the module that a command speaks of.
+fn home_of(command: &Command) -> u32
+    ensures { result ≡ home_of command.now }
+{
+    match command {
+        Command::Query { module, .. } => *module,
+        Command::Edit { module, .. } => *module,
+        Command::Resolve { module, .. } => *module,
+        Command::Attribute { module, .. } => *module,
+    }
+}
+
+/// The point of the module's history for which an answer is given.
+fn point_of(said: &Said) -> u64
+    ensures { result ≡ point_of said.now }
+{
+    match said {
+        Said::Query(answer) => answer.at,
+        Said::Edit(edited) => edited.at,
+    }
+}
+
+/// Adds to which command of which actor something is answered, about which module, and at which point of its history.
+fn add_answer_place(
+    text: &mut Bytes,
+    actor: u64,
+    number: u64,
+    home: u32,
+    point: u64,
+) -> Result<(), NoMemory>
+    ensures { OnOk result (text.new ≡ text.old ++ answer_place actor number home point) }
+{
+    add_decimal(text, actor)?;
+    text.push(b'.')?;
+    add_decimal(text, number)?;
+    text.extend(b" m")?;
+    add_decimal(text, u64::from(home))?;
+    text.extend(b" @")?;
+    add_decimal(text, point)
+}
+
+/// Adds what an edit came to.
+fn add_outcome(text: &mut Bytes, outcome: &Outcome) -> Result<(), NoMemory>
+    ensures { OnOk result (text.new ≡ text.old ++ outcome_text outcome.now) }
+{
+    let told = outcome_text(text.allocator(), outcome)?;
+    text.extend(told.as_slice())
+}
+
+/// Adds what was said, without its point.
+fn add_said(text: &mut Bytes, said: &Said) -> Result<(), NoMemory>
+    ensures { OnOk result (text.new ≡ text.old ++ said_text said.now) }
+{
+    match said {
+        Said::Query(answer) => add_reply(text, &answer.reply),
+        Said::Edit(edited) => add_outcome(text, &edited.outcome),
+    }
+}
+
+/// Adds the line of one answer.
+fn add_answer(
+    text: &mut Bytes,
+    actor: u64,
+    number: u64,
+    command: &Command,
+    said: &Said,
+) -> Result<(), NoMemory>
+    ensures { OnOk result (text.new ≡ text.old ++ answer_line actor number command.now said.now) }
+{
+    add_answer_place(text, actor, number, home_of(command), point_of(said))?;
+    text.push(b' ')?;
+    add_said(text, said)?;
+    text.push(b'\n')
+}
+
+/// Adds the lines of all answers to an actor.
+fn add_answers(
+    text: &mut Bytes,
+    actor: u64,
+    commands: &[Command],
+    said: &[Said],
+) -> Result<(), NoMemory>
+    ensures { OnOk result (text.new ≡ text.old ++ answer_lines actor 0 commands.now said.now) }
+{
+    let count = commands.len().min(said.len());
+    for number in 0..count {
+        add_answer(text, actor, number as u64, &commands[number], &said[number])?;
+    }
+    Ok(())
+}
+
+/// Adds the lines of all actors.
+fn add_actors(text: &mut Bytes, actors: &[ActorRecord]) -> Result<(), NoMemory>
+    ensures { OnOk result (text.new ≡ text.old ++ actor_lines 0 actors.now) }
+{
+    let count = actors.len();
+    for number in 0..count {
+        let actor = &actors[number];
+        add_answers(
+            text,
+            number as u64,
+            actor.commands.as_slice(),
+            actor.said.as_slice(),
+        )?;
+    }
+    Ok(())
+}
+
+/// Adds the text of an entry.
+fn add_entry_text(text: &mut Bytes, entry: &Entry) -> Result<(), NoMemory>
+    ensures { OnOk result (text.new ≡ text.old ++ entry_text entry.now) }
+{
+    let told = entry_text(text.allocator(), entry)?;
+    text.extend(told.as_slice())
+}
+
+/// Adds the line of one entry.
+fn add_entry(text: &mut Bytes, home: u64, place: u64, entry: &Entry) -> Result<(), NoMemory>
+    ensures { OnOk result (text.new ≡ text.old ++ entry_line home place entry.now) }
+{
+    text.push(b'm')?;
+    add_decimal(text, home)?;
+    text.push(b' ')?;
+    add_decimal(text, place)?;
+    text.push(b' ')?;
+    add_entry_text(text, entry)?;
+    text.push(b'\n')
+}
+
+/// Adds the lines of all entries of a module.
+fn add_entries(text: &mut Bytes, home: u64, history: &[Entry]) -> Result<(), NoMemory>
+    ensures { OnOk result (text.new ≡ text.old ++ entry_lines home 1 history.now) }
+{
+    let count = history.len();
+    for at in 0..count {
+        add_entry(text, home, at as u64 + 1, &history[at])?;
+    }
+    Ok(())
+}
+
+/// Adds the line that says how many entries a module has.
+fn add_history_line(text: &mut Bytes, home: u64, history: &[Entry]) -> Result<(), NoMemory>
+    ensures { OnOk result (text.new ≡ text.old ++ history_line home history.now) }
+{
+    text.push(b'm')?;
+    add_decimal(text, home)?;
+    text.extend(b" history ")?;
+    add_decimal(text, history.len() as u64)?;
+    text.push(b'\n')
+}
+
+/// Adds the histories of all modules.
+fn add_histories(text: &mut Bytes, cores: &[Core]) -> Result<(), NoMemory>
+    ensures { OnOk result (text.new ≡ text.old ++ history_lines 0 cores.now) }
+{
+    let count = cores.len();
+    for home in 0..count {
+        let history = cores[home].history();
+        add_history_line(text, home as u64, history)?;
+        add_entries(text, home as u64, history)?;
+    }
+    Ok(())
+}
+
+/// The text of a run: for each answer to each actor the line `ACTOR.COMMAND mMODULE @POINT ANSWER`, and then for each
+/// module the line `mMODULE history COUNT` and for each of its entries, from 1 on, the line `mMODULE NUMBER ENTRY`. Every
+/// line ends with a line feed.
+#[tactic(auto, unfolding(crate::specs::RunText::run_text))]
+pub fn run_text(alloc: Global, ran: &RunRecord) -> Result<Bytes, NoMemory>
+    ensures { IfOk result (λ text. text ≡ run_text ran.now) }
+{
+    let mut text = List::new(alloc);
+    add_actors(&mut text, ran.actors.as_slice())?;
+    add_histories(&mut text, ran.cores.as_slice())?;
+    Ok(text)
+}
