@@ -15,6 +15,7 @@ mod words;
 
 pub use node_read::OpenRefusal;
 pub use promise::inspect_sound;
+pub use refusal::add_decimal;
 pub use run::{MAX_IMAGE_LENGTH, file_status, inspect, refused_status, send};
 pub use status::{FileCause, Status, status_line};
 pub use words::is_name;

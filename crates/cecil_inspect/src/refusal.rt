@@ -3,11 +3,18 @@ ghost use Rattle.std.specs.Fmt.{decimal};
 ghost use Rattle.cecil_inspect.specs.Statuses.{job_refusal_text, pe_refusal_text, refusal_text, tables_refusal_text};
 
 use cil_base::{Bytes, NoMemory};
-use dump_text::add_decimal;
 use job_text::JobRefusal;
 use md_tables::TablesRefusal;
 use node_read::OpenRefusal;
 use pe_image::PeRefusal;
+
+/// Adds a number in decimal to a text.
+pub fn add_decimal(text: &mut Bytes, number: u64) -> Result<(), NoMemory>
+    ensures { OnOk result (text.new ≡ text.old ++ decimal number) }
+{
+    let digits = format!(in text.allocator(); "{number}")?;
+    text.extend(digits.as_bytes())
+}
 
 /// Adds a refusal that has a number of its own, in brackets.
 fn add_numbered(text: &mut Bytes, name: &[u8], number: u64) -> Result<(), NoMemory>

@@ -1,7 +1,7 @@
 -- The files of a run as they are read, one after the other.
-use Rattle.std.proofs.Common.{◌≡◌, refl, sym, subst, inl, inr, ℕ, ◌≤◌, ◌^◌, List, [], ◌∷◌, ◌++◌, arith, length, slice_get, take}
+use Rattle.std.proofs.Common.{◌≡◌, refl, sym, subst, inl, inr, ℕ, ◌≤◌, ◌^◌, List, [], ◌∷◌, ◌++◌, length, slice_get, take}
 use Rattle.std.proofs.Common.{All, Option, Some, None}
-use Rattle.std.proofs.lemmas.List.Elements.{All-cons}
+use Rattle.std.proofs.lemmas.List.Elements.{All-cons, All-nil}
 use Rattle.std.specs.Prelude.{Result, Ok, Err}
 use Rattle.cecil_inspect.proofs.InspectLemmas.{not_longer}
 use Rattle.cecil_inspect.proofs.LimitLemmas.{told}
@@ -17,7 +17,7 @@ use Rattle.cil_outside.specs.declared.folder.Got.TheVariants as got
 use Rattle.job_text.specs.Parts.{Job}
 use Rattle.node_read.specs.Image.{IsImageFile, RefusesImage}
 use Rattle.node_read.specs.declared.image.OpenRefusal.{OpenRefusal}
-use Rattle.cecil_top.specs.ToolFiles.{AreImages, IsFirstUntaken, IsReadFile, IsReadJob, IsTaken, IsUnread, IsUntaken}
+use Rattle.cecil_top.specs.ToolFiles.{AreImages, IsFirstUntaken, IsReadFile, IsReadJob, IsRefusedImage, IsTaken, IsUnread, IsUntaken}
 use Rattle.cecil_top.specs.inner.ToolSteps.{EndsFile, EndsImage, EndsImages, EndsJob, EndsRun}
 
 -- what a folder found is the content of the file
@@ -58,15 +58,13 @@ file_ends_image files name ends.NoMemory is = tt
 pub refused_ends_image : (files : Option (List NamedFile)) (name b : List ℕ) (r : OpenRefusal) (status : Status)
     → IsReadFile files name (2 ^ 26) b → RefusesImage b r → IsRefused r name status → EndsImage files name status
 refused_ends_image files name b r status read refuses (inl refused) =
-    subst (λ s. EndsImage files name s) (sym refused.1) (
-      refl,
-      record {
-        b = b;
-        read = read;
-        told = told b r (not_longer (length b) read.short) refused.0 refuses;
-        refused = refuses;
-      },
-    )
+    let image : IsRefusedImage files name r = record {
+      b = b;
+      read = read;
+      told = told b r (not_longer (length b) read.short) refused.0 refuses;
+      refused = refuses;
+    } in
+    subst (λ s. EndsImage files name s) (sym refused.1) (refl, image)
 refused_ends_image files name b r status read refuses (inr wants) =
     subst (λ s. EndsImage files name s) (sym wants) tt
 
@@ -86,7 +84,7 @@ images_more files (n ∷ names) (x ∷ bs) name b are is = (are.0, images_more f
 -- each of them is taken
 pub images_taken : (files : Option (List NamedFile)) (names bs : List (List ℕ)) → AreImages files names bs
     → All (IsTaken files) names
-images_taken files [] [] are k d l = absurd (omega (arith, l))
+images_taken files [] [] are = All-nil (IsTaken files)
 images_taken files [] (b ∷ bs) are = absurd are
 images_taken files (n ∷ names) [] are = absurd are
 images_taken files (n ∷ names) (b ∷ bs) are =
@@ -100,12 +98,13 @@ first_ends_images files names bs i name ends.Ok at are is = absurd is
 first_ends_images files names bs i name ends.Usage at are is = absurd is
 first_ends_images files names bs i name (ends.Job refusal) at are is = absurd is
 first_ends_images files names bs i name (ends.File other cause) at are is =
-    record {
+    let first : IsFirstUntaken files names other cause = record {
       place = i;
       named = subst (λ n. slice_get names i ≡ Some n) (sym is.0) at;
       before = images_taken files (take i names) bs are;
       untaken = subst (λ n. IsUntaken files n cause) (sym is.0) is.1;
-    }
+    } in
+    first
 first_ends_images files names bs i name ends.ReadFault at are is = tt
 first_ends_images files names bs i name ends.WriteFault at are is = absurd is
 first_ends_images files names bs i name ends.NoMemory at are is = tt

@@ -46,9 +46,11 @@ pub histories_next : (text head new : List ℕ) (n : ℕ) (xs : List CoreState) 
     → x ≡ get_or xs n x → head ≡ text ++ history_line n x.history → new ≡ head ++ entry_lines n 1 x.history
     → new ++ history_lines (n + 1) (drop (n + 1) xs) ≡ text ++ history_lines n (drop n xs)
 histories_next text head new n xs x within is began added =
-    let rest : List ℕ = history_lines (n + 1) (drop (n + 1) xs) in
-    goes_on head new (entry_lines n 1 x.history) rest (entry_lines n 1 x.history ++ rest) added refl
-    ∙ goes_on text head (history_line n x.history) (entry_lines n 1 x.history ++ rest) (history_lines n (drop n xs)) began
+    let first : List ℕ = history_line n x.history in
+    let entries : List ℕ = entry_lines n 1 x.history in
+    let both : new ≡ text ++ (first ++ entries) =
+    added ∙ ap (λ t. t ++ entries) began ∙ append_assoc text first entries in
+    goes_on text new (first ++ entries) (history_lines (n + 1) (drop (n + 1) xs)) (history_lines n (drop n xs)) both
     (ap (history_lines n) (left_at xs n x within is))
 
 pub answers_next : (text new : List ℕ) (k n : ℕ) (cs : List Command) (said : List Said) (c : Command) (a : Said)

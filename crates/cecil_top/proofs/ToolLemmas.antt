@@ -12,6 +12,7 @@ use Rattle.cil_outside.specs.Causes.{Rose}
 use Rattle.cil_outside.specs.Folder.{content_of}
 use Rattle.cil_outside.specs.declared.files.NamedFile.{NamedFile}
 use Rattle.job_text.specs.Answers.{IsJobOf}
+use Rattle.job_text.specs.Job.{job_in}
 use Rattle.job_text.specs.Parts.{Job}
 use Rattle.job_text.specs.declared.job.JobFail.TheVariants as fails
 use Rattle.job_text.specs.declared.job.JobRefusal.{JobRefusal}
@@ -83,17 +84,20 @@ is_there : (files : List NamedFile) (name b : List ℕ) → content_of files nam
 is_there files name b is none = let both : Some b ≡ None = sym is ∙ none in absurd cc
 
 -- a text that denotes a job is not refused, and denotes no other
+one_job : (job other : Job) (r : Result Job JobRefusal) → r ≡ Ok job → r ≡ Ok other → job ≡ other
+one_job job other r is so = cc
+
+no_refusal : (job : Job) (refusal : JobRefusal) (r : Result Job JobRefusal) → r ≡ Ok job → r ≡ Err refusal → ⊥
+no_refusal job refusal r is no = cc
+
 not_refused : (text : List ℕ) (job : Job) (refusal : JobRefusal) → IsJobOf text (Ok job)
     → IsJobOf text (Err (fails.Refused refusal)) → ⊥
 not_refused text job refusal is no =
-    is.not_json (λ d json.
-    let both : Ok {Job} {JobRefusal} job ≡ Err refusal = sym (is.json d json) ∙ no.json d json in absurd cc)
+    is.not_json (λ d json. no_refusal job refusal (job_in d) (is.json d json) (no.json d json))
 
 no_other : (text : List ℕ) (job other : Job) → IsJobOf text (Ok job) → IsJobOf text (Ok other) → (job ≢ other → ⊥)
 no_other text job other is so differ =
-    is.not_json (λ d json.
-    let both : Ok {Job} {JobRefusal} job ≡ Ok other = sym (is.json d json) ∙ so.json d json in
-    let same : job ≡ other = cc in differ same)
+    is.not_json (λ d json. differ (one_job job other (job_in d) (is.json d json) (so.json d json)))
 
 -- so a told job that is read is not refused
 read_unrefused : (files : List NamedFile) (name : List ℕ) (job : Job) (refusal : JobRefusal)
@@ -113,7 +117,7 @@ read_there files name max b TooLong is no =
 read_there files name max b (Refused refusal) is no = no
 
 told_some : (r : OpenRefusal) → IsToldRefusal r → r ≢ opens.NoMemory
-told_some r is same = subst IsToldRefusal same is
+told_some r is same = subst (λ x. IsToldRefusal x) same is
 
 not_both : (n : ℕ) → nat_lt (2 ^ 26) n ≡ false → 2 ^ 26 < n → ⊥
 not_both n short long = grind (arith, nat_tests)
@@ -150,21 +154,28 @@ none_missed law files name other cause whole (inr missed) =
     (subst (λ job. All (IsTaken (Some files)) job.modules) is whole.1.1) missed.1.1)
 
 -- a run of a whole job ends with Ok or wants memory, where no count of faults rose
+completes_told : ImageIsNotRefused → (files : List NamedFile) (name : List ℕ) (read read_now write write_now : ℕ)
+    (status : Status) → RunAnswers (Some files) name status → TellsFaults read read_now write write_now status
+    → (Rose read read_now → ⊥) → (Rose write write_now → ⊥) → IsWholeJob (Some files) name
+    → (status ≡ ends.Ok) ⊎ (status ≡ ends.NoMemory)
+completes_told law files name r s w x ends.Ok answers faults reads writes whole = inl refl
+completes_told law files name r s w x ends.Usage answers faults reads writes whole = absurd answers
+completes_told law files name r s w x (ends.Job refusal) answers faults reads writes whole =
+    absurd (read_unrefused files name whole.0 refusal whole.1.0 answers)
+completes_told law files name r s w x (ends.File other cause) answers faults reads writes whole =
+    absurd (none_missed law files name other cause whole answers)
+completes_told law files name r s w x ends.ReadFault answers faults reads writes whole =
+    absurd (reads (faults.reads refl))
+completes_told law files name r s w x ends.WriteFault answers faults reads writes whole =
+    absurd (writes (faults.writes refl))
+completes_told law files name r s w x ends.NoMemory answers faults reads writes whole = inr refl
+
 pub completes : ImageIsNotRefused → (files : Option (List NamedFile)) (name : List ℕ) (read read_now write write_now : ℕ)
     (status : Status) → RunAnswers files name status → TellsFaults read read_now write write_now status
     → (Rose read read_now → ⊥) → (Rose write write_now → ⊥) → RunCompletes files name status
 completes law None name r s w x status answers faults reads writes = tt
-completes law (Some files) name r s w x ends.Ok answers faults reads writes whole = inl refl
-completes law (Some files) name r s w x ends.Usage answers faults reads writes whole = absurd answers
-completes law (Some files) name r s w x (ends.Job refusal) answers faults reads writes whole =
-    absurd (read_unrefused files name whole.0 refusal whole.1.0 answers)
-completes law (Some files) name r s w x (ends.File other cause) answers faults reads writes whole =
-    absurd (none_missed law files name other cause whole answers)
-completes law (Some files) name r s w x ends.ReadFault answers faults reads writes whole =
-    absurd (reads (faults.reads refl))
-completes law (Some files) name r s w x ends.WriteFault answers faults reads writes whole =
-    absurd (writes (faults.writes refl))
-completes law (Some files) name r s w x ends.NoMemory answers faults reads writes whole = inr refl
+completes law (Some files) name r s w x status answers faults reads writes =
+    completes_told law files name r s w x status answers faults reads writes
 
 -- and it never ends with Usage
 pub never_usage : (files : Option (List NamedFile)) (name : List ℕ) (status : Status) → RunAnswers files name status

@@ -10,8 +10,9 @@ ghost use Rattle.dump_text.specs.Outcomes.{outcome_text};
 
 use crate::record::{ActorRecord, RunRecord};
 use crate::said::Said;
+use cecil_inspect::add_decimal;
 use cil_base::{Bytes, List, NoMemory};
-use dump_text::{add_decimal, add_reply, entry_text, outcome_text};
+use dump_text::{add_reply, entry_text, outcome_text};
 use graph_edits::Outcome;
 use job_text::Command;
 use lazy_core::Core;

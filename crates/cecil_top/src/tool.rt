@@ -1,5 +1,5 @@
 //! What the program does.
-ghost use Rattle.std.specs.Prelude.{◌≡◌, ◌≤◌, ◌↔◌, Err, IfErr, IfOk, IsUtf8, List, map, string_bytes};
+ghost use Rattle.std.specs.Prelude.{◌≡◌, ◌≤◌, ◌↔◌, Err, IfErr, IfOk, map, string_bytes};
 ghost use Rattle.cecil_inspect.specs.Inspect.{TellsFaults};
 ghost use Rattle.cecil_top.specs.Runnable.{AreUntouched};
 ghost use Rattle.cecil_top.specs.Tool.{IsRunOf, RunAnswers, RunCompletes, RunWrites, ToolAnswers, ToolCompletes, ToolWrites};

@@ -17,5 +17,4 @@ mod view;
 
 pub use entry::entry_text;
 pub use outcome::outcome_text;
-pub use pieces::add_decimal;
 pub use reply::{add_reply, reply_text};

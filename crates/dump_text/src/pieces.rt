@@ -11,8 +11,8 @@ use asm_names::guid_text;
 use cil_base::{Bytes, NoMemory};
 use itoa::Buffer;
 
-/// Adds a number in decimal to a text.
-pub fn add_decimal(text: &mut Bytes, number: u64) -> Result<(), NoMemory>
+/// Adds a number in decimal.
+pub(crate) fn add_decimal(text: &mut Bytes, number: u64) -> Result<(), NoMemory>
     ensures { OnOk result (text.new ≡ text.old ++ decimal number) }
 {
     let mut buffer = Buffer::new();

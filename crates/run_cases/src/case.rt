@@ -3,6 +3,9 @@ use crate::setting::setting;
 use cecil_top::status_line;
 use cil_base::NoMemory;
 use std::alloc::Global;
+use std::rt::Files;
+use std::sync::Wait;
+use std::thread::Threads;
 
 /// Adds the lines of a text, each after two spaces.
 fn add_lines(lines: &mut Vec<u8>, text: &[u8]) -> Result<(), NoMemory> {
@@ -31,8 +34,13 @@ fn lines(alloc: Global, case: u64, outcome: &Outcome) -> Result<Vec<u8>, NoMemor
 }
 
 /// What is printed of a case.
-pub fn answer(rt: &HostRuntime, case: u64, line: &str) -> Result<Vec<u8>, NoMemory> {
-    let alloc = rt.alloc();
-    let outcome = outcome(rt, alloc, setting(alloc, rt, line)?)?;
+pub fn answer<R: Threads + Wait + Files + Sync>(
+    rt: &R,
+    alloc: Global,
+    case: u64,
+    line: &str,
+) -> Result<Vec<u8>, NoMemory> {
+    let setting = setting(alloc, rt, line)?;
+    let outcome = outcome(rt, alloc, setting)?;
     lines(alloc, case, &outcome)
 }

@@ -29,7 +29,7 @@ fn main(rt: HostRuntime) -> io::Result<()> {
     let mut number = 0_u64;
     for line in rt.lines(rt.alloc()) {
         number = number.saturating_add(1);
-        let text = case::answer(&rt, number, line?.as_str()).map_err(wanting)?;
+        let text = case::answer(&rt, rt.alloc(), number, line?.as_str()).map_err(wanting)?;
         rt.stdout().write_all(text.as_slice())?;
     }
     Ok(())
