@@ -1,8 +1,8 @@
 -- The files of a run as they are read, one after the other.
-use Rattle.std.proofs.Common.{◌≡◌, refl, sym, subst, inl, inr, ℕ, ◌≤◌, ◌^◌, List, [], ◌∷◌, ◌++◌, length, slice_get, take}
+use Rattle.std.proofs.Common.{◌≡◌, refl, sym, ◌∙◌, ap, subst, inl, inr, ℕ, ◌+◌, ◌<◌, ◌≤◌, ◌^◌, List, [], ◌∷◌, ◌++◌, arith, get_or, length, map, slice_get, take}
 use Rattle.std.proofs.Common.{All, Option, Some, None}
-use Rattle.std.proofs.lemmas.List.Elements.{All-cons, All-nil}
-use Rattle.std.specs.Prelude.{Result, Ok, Err}
+use Rattle.std.proofs.lemmas.List.{map-append, take_all, take_more}
+use Rattle.std.proofs.lemmas.List.Elements.{All-append, All-cons, All-nil}
 use Rattle.cecil_inspect.proofs.InspectLemmas.{not_longer}
 use Rattle.cecil_inspect.proofs.LimitLemmas.{told}
 use Rattle.cecil_inspect.specs.Inspect.{IsContent, IsReadImage}
@@ -11,14 +11,17 @@ use Rattle.cecil_inspect.specs.declared.status.FileCause.{FileCause}
 use Rattle.cecil_inspect.specs.declared.status.FileCause.TheVariants.{Missing, TooLong, Refused}
 use Rattle.cecil_inspect.specs.declared.status.Status.{Status}
 use Rattle.cecil_inspect.specs.declared.status.Status.TheVariants as ends
+use Rattle.cil_outside.specs.Causes.{Rose}
 use Rattle.cil_outside.specs.Folder.{FolderReads}
 use Rattle.cil_outside.specs.declared.files.NamedFile.{NamedFile}
 use Rattle.cil_outside.specs.declared.folder.Got.TheVariants as got
 use Rattle.job_text.specs.Parts.{Job}
+use Rattle.lazy_core.specs.Slots.{CoreState}
 use Rattle.node_read.specs.Image.{IsImageFile, RefusesImage}
 use Rattle.node_read.specs.declared.image.OpenRefusal.{OpenRefusal}
+use Rattle.cecil_top.specs.Runnable.{AreUntouched}
 use Rattle.cecil_top.specs.ToolFiles.{AreImages, IsFirstUntaken, IsReadFile, IsReadJob, IsRefusedImage, IsTaken, IsUnread, IsUntaken}
-use Rattle.cecil_top.specs.inner.ToolSteps.{EndsFile, EndsImage, EndsImages, EndsJob, EndsRun}
+use Rattle.cecil_top.specs.inner.ToolSteps.{AreTakenTo, EndsFile, EndsImage, EndsImages, EndsJob, EndsRun}
 
 -- what a folder found is the content of the file
 pub found_content : (files : Option (List NamedFile)) (name : List ℕ) (max : ℕ) (b : List ℕ)
@@ -129,3 +132,42 @@ images_end_run files name job (ends.File other cause) read is = inr (job, read, 
 images_end_run files name job ends.ReadFault read is = tt
 images_end_run files name job ends.WriteFault read is = absurd is
 images_end_run files name job ends.NoMemory read is = tt
+
+-- one image more is taken
+taken_front : (names : List (List ℕ)) (i : ℕ) (name : List ℕ) → i < length names → name ≡ get_or names i name
+    → take (i + 1) names ≡ take i names ++ name ∷ []
+taken_front names i name within is =
+    take_more names i name within ∙ ap (λ n. take i names ++ n ∷ []) (sym is)
+
+pub taken_more : (files now : Option (List NamedFile)) (names : List (List ℕ)) (i : ℕ) (name : List ℕ)
+    (cores more : List CoreState) (core : CoreState) → i < length names → name ≡ get_or names i name → now ≡ files
+    → AreTakenTo files names cores i → IsReadImage now name core.bytes → core.history ≡ []
+    → more ≡ cores ++ core ∷ [] → AreTakenTo files names more (i + 1)
+taken_more files now names i name cores more core within same tells taken image untouched added =
+    let here : IsReadImage files name core.bytes = subst (λ f. IsReadImage f name core.bytes) tells image in
+    let bytes : map (λ (core : CoreState). core.bytes) more
+    ≡ map (λ (core : CoreState). core.bytes) cores ++ core.bytes ∷ [] =
+    ap (map (λ (core : CoreState). core.bytes)) added
+    ∙ map-append (λ (core : CoreState). core.bytes) cores (core ∷ []) in
+    let both : AreImages files (take i names ++ name ∷ []) (map (λ (core : CoreState). core.bytes) cores ++ core.bytes ∷ []) =
+    images_more files (take i names) (map (λ (core : CoreState). core.bytes) cores) name core.bytes taken.images here in
+    let quiet : AreUntouched (cores ++ core ∷ []) =
+    All-append (λ (c : CoreState). c.history ≡ []) cores (core ∷ []) taken.untouched
+    (All-cons (λ (c : CoreState). c.history ≡ []) core [] untouched (All-nil (λ (c : CoreState). c.history ≡ []))) in
+    record {
+      images = subst (λ bs. AreImages files (take (i + 1) names) bs) (sym bytes)
+          (subst (λ ns. AreImages files ns (map (λ (core : CoreState). core.bytes) cores ++ core.bytes ∷ []))
+          (sym (taken_front names i name within same)) both);
+      untouched = subst AreUntouched (sym added) quiet;
+    }
+
+-- all of them are taken
+pub taken_all : (files : Option (List NamedFile)) (names : List (List ℕ)) (cores : List CoreState) (n : ℕ)
+    → length names ≤ n → AreTakenTo files names cores n
+    → AreImages files names (map (λ (core : CoreState). core.bytes) cores)
+taken_all files names cores n past taken =
+    subst (λ ns. AreImages files ns (map (λ (core : CoreState). core.bytes) cores)) (take_all n names past) taken.images
+
+-- a count that rose above a later one rose above an earlier one
+pub rose_before : (first later now : ℕ) → first ≤ later → Rose later now → Rose first now
+rose_before first later now less rose = omega (arith, less, rose)

@@ -6,7 +6,7 @@ use Rattle.std.proofs.Math.Seq.{drop-cons}
 use Rattle.job_text.specs.declared.command.Command.{Command}
 use Rattle.lazy_core.specs.Slots.{CoreState}
 use Rattle.node_model.specs.declared.entry.Entry.{Entry}
-use Rattle.cecil_top.specs.RunText.{actor_lines, answer_line, answer_lines, entry_line, entry_lines, history_line, history_lines}
+use Rattle.cecil_top.specs.RunText.{actor_lines, answer_line, answer_lines, entry_line, entry_lines, history_text, history_texts}
 use Rattle.cecil_top.specs.declared.record.ActorRecord.{ActorRecord}
 use Rattle.cecil_top.specs.declared.said.Said.{Said}
 
@@ -42,16 +42,12 @@ entries_next text new m n xs x within is added =
     goes_on text new (entry_line m (n + 1) x) (entry_lines m (n + 1 + 1) (drop (n + 1) xs))
     (entry_lines m (n + 1) (drop n xs)) added (ap (entry_lines m (n + 1)) (left_at xs n x within is))
 
-pub histories_next : (text head new : List ℕ) (n : ℕ) (xs : List CoreState) (x : CoreState) → n < length xs
-    → x ≡ get_or xs n x → head ≡ text ++ history_line n x.history → new ≡ head ++ entry_lines n 1 x.history
-    → new ++ history_lines (n + 1) (drop (n + 1) xs) ≡ text ++ history_lines n (drop n xs)
-histories_next text head new n xs x within is began added =
-    let first : List ℕ = history_line n x.history in
-    let entries : List ℕ = entry_lines n 1 x.history in
-    let both : new ≡ text ++ (first ++ entries) =
-    added ∙ ap (λ t. t ++ entries) began ∙ append_assoc text first entries in
-    goes_on text new (first ++ entries) (history_lines (n + 1) (drop (n + 1) xs)) (history_lines n (drop n xs)) both
-    (ap (history_lines n) (left_at xs n x within is))
+pub histories_next : (text new : List ℕ) (n : ℕ) (xs : List CoreState) (x : CoreState) → n < length xs
+    → x ≡ get_or xs n x → new ≡ text ++ history_text n x.history
+    → new ++ history_texts (n + 1) (drop (n + 1) xs) ≡ text ++ history_texts n (drop n xs)
+histories_next text new n xs x within is added =
+    goes_on text new (history_text n x.history) (history_texts (n + 1) (drop (n + 1) xs)) (history_texts n (drop n xs))
+    added (ap (history_texts n) (left_at xs n x within is))
 
 pub answers_next : (text new : List ℕ) (k n : ℕ) (cs : List Command) (said : List Said) (c : Command) (a : Said)
     → n < length cs → n < length said → c ≡ get_or cs n c → a ≡ get_or said n a → new ≡ text ++ answer_line k n c a
@@ -76,12 +72,12 @@ entries_whole text all m n xs past =
     whole text (entry_lines m (n + 1) (drop n xs)) all (ap (entry_lines m (n + 1)) (none_left xs n past))
 
 pub histories_whole : (text all : List ℕ) (n : ℕ) (xs : List CoreState) → length xs ≤ n
-    → text ++ history_lines n (drop n xs) ≡ all → text ≡ all
+    → text ++ history_texts n (drop n xs) ≡ all → text ≡ all
 histories_whole text all n xs past =
-    whole text (history_lines n (drop n xs)) all (ap (history_lines n) (none_left xs n past))
+    whole text (history_texts n (drop n xs)) all (ap (history_texts n) (none_left xs n past))
 
 or_end : (a b n : ℕ) → min a b ≤ n → (a ≤ n) ⊎ (b ≤ n)
-or_end a b n past = dite (dec_le a n) (λ end. inl end) (λ more. inr (omega (arith, past, more)))
+or_end a b n past = dite (dec_le a n) (λ end. inl end) (λ more. inr (omega arith))
 
 none_said : (k n : ℕ) (cs : List Command) → answer_lines k n cs [] ≡ []
 none_said k n [] = refl

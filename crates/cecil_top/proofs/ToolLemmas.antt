@@ -111,8 +111,8 @@ read_there : (files : List NamedFile) (name : List ℕ) (max : ℕ) (b : List �
     → IsReadFile (Some files) name max b → IsUnread (Some files) name max cause → ⊥
 read_there files name max b Missing is no = is_there files name b is.content no
 read_there files name max b TooLong is no =
-    let same : no.0 ≡ b = one_content files name no.0 b no.1.0 is.content in
-    let long : max < length b = subst (λ t. max < length t) same no.1.1 in
+    let same : no.0 ≡ b = one_content files name no.0 b no.1 is.content in
+    let long : max < length b = subst (λ t. max < length t) same no.2 in
     omega (arith, long, is.short)
 read_there files name max b (Refused refusal) is no = no
 
@@ -127,8 +127,8 @@ taken_untaken : ImageIsNotRefused → (files : List NamedFile) (name : List ℕ)
     → IsTaken (Some files) name → IsUntaken (Some files) name cause → ⊥
 taken_untaken law files name Missing is no = is_there files name is.0 is.1.content no
 taken_untaken law files name TooLong is no =
-    let same : no.0 ≡ is.0 = one_content files name no.0 is.0 no.1.0 is.1.content in
-    not_both (length is.0) is.1.short (subst (λ t. 2 ^ 26 < length t) same no.1.1)
+    let same : no.0 ≡ is.0 = one_content files name no.0 is.0 no.1 is.1.content in
+    not_both (length is.0) is.1.short (subst (λ t. 2 ^ 26 < length t) same no.2)
 taken_untaken law files name (Refused refusal) is no =
     let same : no.b ≡ is.0 = one_content files name no.b is.0 no.read.content is.1.content in
     let some : refusal ≢ opens.NoMemory = told_some refusal no.told in
@@ -144,14 +144,14 @@ none_untaken law files names other cause all first =
 none_missed : ImageIsNotRefused → (files : List NamedFile) (name other : List ℕ) (cause : FileCause)
     → IsWholeJob (Some files) name → IsFirstMissed (Some files) name other cause → ⊥
 none_missed law files name other cause whole (inl missed) =
-    read_there files name (2 ^ 24) whole.1.0.text cause whole.1.0.read missed.1
+    read_there files name (2 ^ 24) whole.1.text cause whole.1.read missed.1
 none_missed law files name other cause whole (inr missed) =
-    let read : IsReadJob (Some files) name whole.0 = whole.1.0 in
-    let again : IsReadJob (Some files) name missed.0 = missed.1.0 in
+    let read : IsReadJob (Some files) name whole.0 = whole.1 in
+    let again : IsReadJob (Some files) name missed.0 = missed.1 in
     let same : read.text ≡ again.text = one_content files name read.text again.text read.read.content again.read.content in
     no_other again.text whole.0 missed.0 (subst (λ t. IsJobOf t (Ok whole.0)) same read.denotes) again.denotes
     (λ is. none_untaken law files missed.0.modules other cause
-    (subst (λ job. All (IsTaken (Some files)) job.modules) is whole.1.1) missed.1.1)
+    (subst (λ job. All (IsTaken (Some files)) job.modules) is whole.2) missed.2)
 
 -- a run of a whole job ends with Ok or wants memory, where no count of faults rose
 completes_told : ImageIsNotRefused → (files : List NamedFile) (name : List ℕ) (read read_now write write_now : ℕ)
@@ -161,7 +161,7 @@ completes_told : ImageIsNotRefused → (files : List NamedFile) (name : List ℕ
 completes_told law files name r s w x ends.Ok answers faults reads writes whole = inl refl
 completes_told law files name r s w x ends.Usage answers faults reads writes whole = absurd answers
 completes_told law files name r s w x (ends.Job refusal) answers faults reads writes whole =
-    absurd (read_unrefused files name whole.0 refusal whole.1.0 answers)
+    absurd (read_unrefused files name whole.0 refusal whole.1 answers)
 completes_told law files name r s w x (ends.File other cause) answers faults reads writes whole =
     absurd (none_missed law files name other cause whole answers)
 completes_told law files name r s w x ends.ReadFault answers faults reads writes whole =

@@ -54,11 +54,14 @@ entry_lines m place (e ∷ h) = entry_line m place e ++ entry_lines m (place + 1
 abbrev pub history_line : ℕ → List Entry → List ℕ
 history_line m h = codes "m" ++ decimal m ++ codes " history " ++ line (decimal (length h))
 
+-- that, and its entries
+abbrev pub history_text : ℕ → List Entry → List ℕ
+history_text m h = history_line m h ++ entry_lines m 1 h
+
 -- the histories of all modules, from the one of this number on
-abbrev pub history_lines : ℕ → List CoreState → List ℕ
-history_lines m [] = []
-history_lines m (core ∷ cores) =
-    history_line m core.history ++ entry_lines m 1 core.history ++ history_lines (m + 1) cores
+abbrev pub history_texts : ℕ → List CoreState → List ℕ
+history_texts m [] = []
+history_texts m (core ∷ cores) = history_text m core.history ++ history_texts (m + 1) cores
 
 unfoldable pub run_text : RunRecord → List ℕ
-run_text r = actor_lines 0 r.actors ++ history_lines 0 r.cores
+run_text r = actor_lines 0 r.actors ++ history_texts 0 r.cores

@@ -4,7 +4,7 @@ ghost use Rattle.std.specs.Fmt.{decimal};
 ghost use Rattle.cecil_inspect.specs.Lines.{line};
 ghost use Rattle.cecil_top.specs.Commands.{home_of, point_of};
 ghost use Rattle.cecil_top.specs.RunText.{actor_lines, answer_line, answer_lines, answer_place, entry_line, entry_lines};
-ghost use Rattle.cecil_top.specs.RunText.{history_line, history_lines, run_text, said_text};
+ghost use Rattle.cecil_top.specs.RunText.{history_line, history_text, history_texts, run_text, said_text};
 ghost use Rattle.dump_text.specs.Entries.{entry_text};
 ghost use Rattle.dump_text.specs.Outcomes.{outcome_text};
 
@@ -110,19 +110,25 @@ fn add_answers(
     Ok(())
 }
 
+/// Adds the lines of an actor.
+fn add_actor(text: &mut Bytes, number: u64, actor: &ActorRecord) -> Result<(), NoMemory>
+    ensures { OnOk result (text.new ≡ text.old ++ answer_lines number 0 actor.now.commands actor.now.said) }
+{
+    add_answers(
+        text,
+        number,
+        actor.commands.as_slice(),
+        actor.said.as_slice(),
+    )
+}
+
 /// Adds the lines of all actors.
 fn add_actors(text: &mut Bytes, actors: &[ActorRecord]) -> Result<(), NoMemory>
     ensures { OnOk result (text.new ≡ text.old ++ actor_lines 0 actors.now) }
 {
     let count = actors.len();
     for number in 0..count {
-        let actor = &actors[number];
-        add_answers(
-            text,
-            number as u64,
-            actor.commands.as_slice(),
-            actor.said.as_slice(),
-        )?;
+        add_actor(text, number as u64, &actors[number])?;
     }
     Ok(())
 }
@@ -170,15 +176,22 @@ fn add_history_line(text: &mut Bytes, home: u64, history: &[Entry]) -> Result<()
     text.push(b'\n')
 }
 
+/// Adds the history of a module.
+fn add_history(text: &mut Bytes, home: u64, core: &Core) -> Result<(), NoMemory>
+    ensures { OnOk result (text.new ≡ text.old ++ history_text home core.now.history) }
+{
+    let history = core.history();
+    add_history_line(text, home, history)?;
+    add_entries(text, home, history)
+}
+
 /// Adds the histories of all modules.
 fn add_histories(text: &mut Bytes, cores: &[Core]) -> Result<(), NoMemory>
-    ensures { OnOk result (text.new ≡ text.old ++ history_lines 0 cores.now) }
+    ensures { OnOk result (text.new ≡ text.old ++ history_texts 0 cores.now) }
 {
     let count = cores.len();
     for home in 0..count {
-        let history = cores[home].history();
-        add_history_line(text, home as u64, history)?;
-        add_entries(text, home as u64, history)?;
+        add_history(text, home as u64, &cores[home])?;
     }
     Ok(())
 }

@@ -1,5 +1,5 @@
 -- The steps of a run: its files are read, its actors run, and its text is written. No public contract cites these words.
-use Rattle.std.specs.Prelude.{◌≡◌, ℕ, ◌^◌, List, [], Option, Result, Ok, Err}
+use Rattle.std.specs.Prelude.{◌≡◌, ℕ, ◌^◌, List, [], Option, Result, Ok, Err, map, take}
 use Rattle.cecil_inspect.specs.declared.status.Status.{Status}
 use Rattle.cecil_inspect.specs.declared.status.Status.TheVariants as ends
 use Rattle.cil_outside.specs.declared.files.NamedFile.{NamedFile}
@@ -9,8 +9,9 @@ use Rattle.node_read.specs.Image.{IsImageFile, RefusesImage}
 use Rattle.node_read.specs.declared.image.OpenRefusal.{OpenRefusal}
 use Rattle.cecil_top.specs.Explains.{Explains}
 use Rattle.cecil_top.specs.RunText.{run_text}
+use Rattle.cecil_top.specs.Runnable.{AreUntouched}
 use Rattle.cecil_top.specs.Tool.{RunAnswers}
-use Rattle.cecil_top.specs.ToolFiles.{IsFirstUntaken, IsRefusedJob, IsUnread, IsUntaken}
+use Rattle.cecil_top.specs.ToolFiles.{AreImages, IsFirstUntaken, IsRefusedJob, IsUnread, IsUntaken}
 use Rattle.cecil_top.specs.declared.record.RunRecord.{RunRecord}
 
 -- a status with which reading a file within so many bytes may end
@@ -49,6 +50,12 @@ abbrev pub EndsRun : Option (List NamedFile) → List ℕ → Status → Type 0
 EndsRun files name ends.Ok = ⊥
 EndsRun files name ends.WriteFault = ⊥
 EndsRun files name status = RunAnswers files name status
+
+-- the first n of these images are taken, and nothing was done to their cores
+pub record AreTakenTo (files : Option (List NamedFile)) (names : List (List ℕ)) (cores : List CoreState) (n : ℕ) :
+    Type 0 where
+  pub images : AreImages files (take n names) (map (λ (core : CoreState). core.bytes) cores)
+  pub untouched : AreUntouched cores
 
 -- the text of a record that explains the run of these commands over these images
 pub record IsTextOf (images : List (List ℕ)) (given : List (List Command)) (text : List ℕ) : Type 0 where

@@ -1,0 +1,28 @@
+use Rattle.std.proofs.Common.{◌≡◌, ◌∙◌, arith, rules}
+use Rattle.std.specs.Prelude.{IsUtf8}
+use Rattle.cecil_top.proofs.FileLemmas.{taken_all, taken_more}
+use Rattle.cecil_top.proofs.PlaceLemmas.{all_at, read_at}
+use Rattle.cecil_top.proofs.images.open_images.Goals as goal
+
+pub text_of-requires : goal.text_of-requires
+text_of-requires g c =
+    all_at IsUtf8 c.args.names.now c.requires c.loop-name.name-index c.name-item.result
+    (read_at c.args.names.now c.loop-name.name-index c.name-item.result (search rules) c.name-item.is)
+
+pub loop-name-preserved : goal.loop-name-preserved
+loop-name-preserved g c =
+    let files = c.loop-name.invariant.1 in
+    let before = c.loop-name.invariant.2 in
+    let now = c.in_ok-core.ensures.later in (
+      taken_more (g.F.Folder.files c.args.folder.now) (g.F.Folder.files c.loop-name.folder) c.args.names.now
+          c.loop-name.name-index c.name-item.result c.loop-name.cores c.push_core.new.cores c.in_ok-core.core (search rules)
+          c.name-item.is files c.loop-name.invariant.0 c.in_ok-core.ensures.image c.in_ok-core.ensures.untouched
+          c.in_ok-push_core.ensures.core,
+      c.in_ok-core.ensures.files ∙ files,
+      omega (arith, before, now),
+    )
+
+pub returns-clause-images : goal.returns-clause-images
+returns-clause-images g c =
+    taken_all (g.F.Folder.files c.args.folder.now) c.args.names.now c.loop-name.cores c.loop-name.name-index (search rules)
+    c.loop-name.invariant.0
