@@ -12,7 +12,6 @@ use Rattle.cil_outside.specs.Causes.{Rose}
 use Rattle.cil_outside.specs.Folder.{content_of}
 use Rattle.cil_outside.specs.declared.files.NamedFile.{NamedFile}
 use Rattle.job_text.specs.Answers.{IsJobOf}
-use Rattle.job_text.specs.Job.{job_in}
 use Rattle.job_text.specs.Parts.{Job}
 use Rattle.job_text.specs.declared.job.JobFail.TheVariants as fails
 use Rattle.job_text.specs.declared.job.JobRefusal.{JobRefusal}
@@ -93,11 +92,11 @@ no_refusal job refusal r is no = cc
 not_refused : (text : List ℕ) (job : Job) (refusal : JobRefusal) → IsJobOf text (Ok job)
     → IsJobOf text (Err (fails.Refused refusal)) → ⊥
 not_refused text job refusal is no =
-    is.not_json (λ d json. no_refusal job refusal (job_in d) (is.json d json) (no.json d json))
+    is.not_json (λ d json. no_refusal job refusal _ (is.json d json) (no.json d json))
 
 no_other : (text : List ℕ) (job other : Job) → IsJobOf text (Ok job) → IsJobOf text (Ok other) → (job ≢ other → ⊥)
 no_other text job other is so differ =
-    is.not_json (λ d json. differ (one_job job other (job_in d) (is.json d json) (so.json d json)))
+    is.not_json (λ d json. differ (one_job job other _ (is.json d json) (so.json d json)))
 
 -- so a told job that is read is not refused
 read_unrefused : (files : List NamedFile) (name : List ℕ) (job : Job) (refusal : JobRefusal)
