@@ -57,12 +57,9 @@ fn make_text<R: Threads + Wait + Sync, F: Folder, G: Decoder + Sync>(
     ensures files { F.files folder.new ≡ F.files folder.old }
     ensures later { F.faults folder.old ≤ F.faults folder.new }
 {
-    let Job {
-        modules,
-        actors,
-        ..
-    } = read_job(alloc, folder, name)?;
-    let cores = open_images(alloc, folder, modules.as_slice())?;
+    let job = read_job(alloc, folder, name)?;
+    let cores = open_images(alloc, folder, job.modules.as_slice())?;
+    let Job { actors, .. } = job;
     match text_of_run(rt, alloc, cores, actors, gate) {
         Ok(text) => Ok(text),
         Err(NoMemory) => Err(Status::NoMemory),
