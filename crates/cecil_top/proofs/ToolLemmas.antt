@@ -1,7 +1,7 @@
 -- How a run ends, and that a whole job is run.
 use Rattle.std.proofs.Common.{◌≡◌, ◌≢◌, refl, sym, ◌∙◌, ap, subst, inl, inr, ◌⊎◌, ℕ, ◌<◌, ◌^◌, List, All, Option, Some, None, false, arith, length, nat_lt}
 use Rattle.std.proofs.lemmas.Bool.Decides.{nat_tests}
-use Rattle.std.specs.Prelude.{Result, Ok, Err}
+use Rattle.std.specs.Prelude.{MatchOption, Result, Ok, Err}
 use Rattle.cecil_inspect.specs.Inspect.{IsContent, IsToldRefusal, TellsFaults}
 use Rattle.cecil_inspect.specs.Steps.{Sends}
 use Rattle.cecil_inspect.specs.declared.status.FileCause.{FileCause}
@@ -180,3 +180,11 @@ completes law (Some files) name r s w x status answers faults reads writes =
 pub never_usage : (files : Option (List NamedFile)) (name : List ℕ) (status : Status) → RunAnswers files name status
     → status ≢ ends.Usage
 never_usage files name status is same = subst (λ s. RunAnswers files name s) same is
+
+-- of `run JOB` it is said what a run does, and of other words what `inspect` does
+pub when_some : {A : Type 0} (o : Option A) (a : A) (N : Type 0) (S : A → Type 0) → o ≡ Some a → S a
+    → MatchOption o N S
+when_some o a N S is holds = subst (λ x. MatchOption x N S) (sym is) holds
+
+pub when_none : {A : Type 0} (o : Option A) (N : Type 0) (S : A → Type 0) → o ≡ None → N → MatchOption o N S
+when_none o N S is holds = subst (λ x. MatchOption x N S) (sym is) holds

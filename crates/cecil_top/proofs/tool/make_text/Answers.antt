@@ -1,0 +1,40 @@
+use Rattle.std.proofs.Common.{subst, map, rules}
+use Rattle.lazy_core.specs.Slots.{CoreState}
+use Rattle.cecil_top.specs.ToolFiles.{AreImages}
+use Rattle.cecil_top.specs.inner.ToolSteps.{EndsImages}
+use Rattle.cecil_top.proofs.FileLemmas.{images_end_run, job_ends_run}
+use Rattle.cecil_top.proofs.tool.make_text.Goals as goal
+
+pub returns-in_err-job-clause-status : goal.returns-in_err-job-clause-status
+returns-in_err-job-clause-status g c =
+    let ends =
+    job_ends_run (g.F.Folder.files c.args.folder.now) c.args.name.now c.in_err-job.field-0.0
+    c.in_err-job.ensures.status in
+    search rules
+
+pub returns-in_err-cores-clause-status : goal.returns-in_err-cores-clause-status
+returns-in_err-cores-clause-status g c =
+    let job = c.in_ok-job.job in
+    let status = c.in_err-cores.field-0.0 in
+    let ends =
+    images_end_run (g.F.Folder.files c.args.folder.now) c.args.name.now job status c.in_ok-job.ensures.job
+    (subst (λ f. EndsImages f job.modules status) c.in_ok-job.ensures.files
+    (subst (λ ns. EndsImages (g.F.Folder.files c.read_job.new.folder) ns status) c.as_slice.ensures
+    c.in_err-cores.ensures.status)) in
+    search rules
+
+pub returns-in-Ok-clause-text : goal.returns-in-Ok-clause-text
+returns-in-Ok-clause-text g c =
+    let job = c.in_ok-job.job in
+    let images = map (λ (core : CoreState). core.bytes) c.in_ok-cores.cores in
+    record {
+      job = job;
+      images = images;
+      r = c.in-Ok.ensures.r;
+      read = c.in_ok-job.ensures.job;
+      opened = subst (λ f. AreImages f job.modules images) c.in_ok-job.ensures.files
+          (subst (λ ns. AreImages (g.F.Folder.files c.read_job.new.folder) ns images) c.as_slice.ensures
+          c.in_ok-cores.ensures.images);
+      explains = c.in-Ok.ensures.explains;
+      prints = c.in-Ok.ensures.prints;
+    }
