@@ -3,7 +3,7 @@ use Rattle.std.specs.Prelude.{IsUtf8}
 use Rattle.cecil_inspect.specs.Inspect.{IsReadImage}
 use Rattle.lazy_core.specs.Slots.{CoreState}
 use Rattle.cecil_top.specs.inner.ToolSteps.{EndsImage}
-use Rattle.cecil_top.proofs.FileLemmas.{first_ends_images, taken_all, taken_more}
+use Rattle.cecil_top.proofs.FileLemmas.{first_ends_images, rose_before, taken_all, taken_more}
 use Rattle.cecil_top.proofs.PlaceLemmas.{all_at, read_at}
 use Rattle.cecil_top.proofs.images.open_images.Goals as goal
 
@@ -46,3 +46,9 @@ returns-in_err-core-clause-status g c =
     (subst (λ n. EndsImage (g.F.Folder.files c.loop-name.folder) n status) c.text_of.ensures
     c.in_err-core.ensures.status)) in
     search rules
+
+pub returns-in_err-core-clause-read : goal.returns-in_err-core-clause-read
+returns-in_err-core-clause-read g c = λ is.
+    rose_before (g.F.Folder.faults c.args.folder.now) (g.F.Folder.faults c.loop-name.folder)
+    (g.F.Folder.faults c.open_image.new.folder) c.loop-name.invariant.2
+    (c.in_err-core.ensures.read (search (rules, is)))

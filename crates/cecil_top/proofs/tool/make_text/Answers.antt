@@ -2,7 +2,7 @@ use Rattle.std.proofs.Common.{subst, map, rules}
 use Rattle.lazy_core.specs.Slots.{CoreState}
 use Rattle.cecil_top.specs.ToolFiles.{AreImages}
 use Rattle.cecil_top.specs.inner.ToolSteps.{EndsImages}
-use Rattle.cecil_top.proofs.FileLemmas.{images_end_run, job_ends_run}
+use Rattle.cecil_top.proofs.FileLemmas.{images_end_run, job_ends_run, rose_before}
 use Rattle.cecil_top.proofs.tool.make_text.Goals as goal
 
 pub returns-in_err-job-clause-status : goal.returns-in_err-job-clause-status
@@ -38,3 +38,9 @@ returns-in-Ok-clause-text g c =
       explains = c.in-Ok.ensures.explains;
       prints = c.in-Ok.ensures.prints;
     }
+
+pub returns-in_err-cores-clause-read : goal.returns-in_err-cores-clause-read
+returns-in_err-cores-clause-read g c = λ is.
+    rose_before (g.F.Folder.faults c.args.folder.now) (g.F.Folder.faults c.read_job.new.folder)
+    (g.F.Folder.faults c.open_images.new.folder) c.in_ok-job.ensures.later
+    (c.in_err-cores.ensures.read (search (rules, is)))

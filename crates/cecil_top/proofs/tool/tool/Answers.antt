@@ -1,11 +1,21 @@
-use Rattle.std.proofs.Common.{◌≡◌, Some, map, rules}
+use Rattle.std.proofs.Common.{◌≡◌, ◌∙◌, sym, Some, None, map, rules}
 use Rattle.std.specs.Prelude.{IfSome, string_bytes}
 use Rattle.cecil_inspect.specs.Inspect.{Answers, Completes, Writes}
 use Rattle.cecil_inspect.specs.Words.{asked}
 use Rattle.cecil_top.specs.Tool.{RunAnswers, RunCompletes, RunWrites}
 use Rattle.cecil_top.specs.ToolWords.{job_asked}
-use Rattle.cecil_top.proofs.ToolLemmas.{completes, when_some}
+use Rattle.cecil_top.proofs.ToolLemmas.{completes, never_usage, when_some}
 use Rattle.cecil_top.proofs.tool.tool.Goals as goal
+
+pub returns-in-Some-clause-usage : goal.returns-in-Some-clause-usage
+returns-in-Some-clause-usage g c =
+    let words = map string_bytes c.args.words.now in
+    let files = g.F.Folder.files c.args.folder.now in
+    let name = c.in-Some.name.now in
+    let some : job_asked words ≡ Some name = search rules in (
+      λ is. absurd (never_usage files name c.run.result c.run.ensures.cause is),
+      λ none. let both : Some name ≡ None = sym some ∙ none.0 in absurd cc,
+    )
 
 pub returns-in-Some-clause-cause : goal.returns-in-Some-clause-cause
 returns-in-Some-clause-cause g c =
