@@ -1,5 +1,5 @@
-use crate::outcome::{Outcome, outcome};
-use crate::setting::setting;
+use crate::outcome::{Outcome, outcome_of};
+use crate::setting::setting_of;
 use cecil_top::status_line;
 use cil_base::NoMemory;
 use std::alloc::Global;
@@ -40,7 +40,7 @@ pub fn answer<R: Threads + Wait + Files + Sync>(
     case: u64,
     line: &str,
 ) -> Result<Vec<u8>, NoMemory> {
-    let setting = setting(alloc, rt, line)?;
-    let outcome = outcome(rt, alloc, setting)?;
+    let setting = setting_of(alloc, rt, line)?;
+    let outcome = outcome_of(rt, alloc, setting)?;
     lines(alloc, case, &outcome)
 }

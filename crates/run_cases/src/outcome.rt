@@ -27,7 +27,7 @@ fn run<R: Threads + Wait + Sync, F: Folder, O: Outlet, G: Decoder + Sync>(
 }
 
 /// Runs `tool` over a folder and an outlet in memory: those that never fail where the setting is sound.
-pub fn outcome<R: Threads + Wait + Sync>(
+pub fn outcome_of<R: Threads + Wait + Sync>(
     rt: &R,
     alloc: Global,
     setting: Setting,

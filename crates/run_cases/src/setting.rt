@@ -112,7 +112,7 @@ fn words(alloc: Global, text: &str) -> Result<Vec<String>, NoMemory> {
 }
 
 /// The setting of a case.
-pub fn setting<R: Files>(alloc: Global, rt: &R, line: &str) -> Result<Setting, NoMemory> {
+pub fn setting_of<R: Files>(alloc: Global, rt: &R, line: &str) -> Result<Setting, NoMemory> {
     let (head, job) = line.split_once(" -- ").unwrap_or((line, ""));
     let (command, changes) = head.split_once("; ").unwrap_or((head, ""));
     let mut setting = Setting {
