@@ -14,7 +14,7 @@ use Rattle.shared_module.specs.declared.edit.Edited.{Edited}
 use Rattle.shared_module.proofs.PrefixLemmas.{one_behind}
 use Rattle.cecil_top.specs.Commands.{token_made}
 use Rattle.cecil_top.specs.Explains.{AreDone}
-use Rattle.cecil_top.specs.Runnable.{CanRun}
+use Rattle.job_text.specs.Runnable.{CanRun}
 use Rattle.cecil_top.specs.declared.said.Said.{Said}
 use Rattle.cecil_top.specs.declared.said.Said.TheVariants as saids
 use Rattle.cecil_top.specs.inner.Actors.{AreDoneTo}

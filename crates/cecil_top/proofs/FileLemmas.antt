@@ -19,7 +19,7 @@ use Rattle.job_text.specs.Parts.{Job}
 use Rattle.lazy_core.specs.Slots.{CoreState}
 use Rattle.node_read.specs.Image.{IsImageFile, RefusesImage}
 use Rattle.node_read.specs.declared.image.OpenRefusal.{OpenRefusal}
-use Rattle.cecil_top.specs.Runnable.{AreUntouched}
+use Rattle.cecil_top.specs.Untouched.{AreUntouched}
 use Rattle.cecil_top.specs.ToolFiles.{AreImages, IsFirstUntaken, IsReadFile, IsReadJob, IsRefusedImage, IsTaken, IsUnread, IsUntaken}
 use Rattle.cecil_top.specs.inner.ToolSteps.{AreTakenTo, EndsFile, EndsImage, EndsImages, EndsJob, EndsRun}
 

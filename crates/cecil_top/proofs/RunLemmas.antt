@@ -9,7 +9,8 @@ use Rattle.lazy_core.specs.Legal.{Legal}
 use Rattle.lazy_core.specs.Slots.{CoreState}
 use Rattle.cecil_top.specs.Explained.{ExplainsCaller}
 use Rattle.cecil_top.specs.Explains.{AreDone, Explains}
-use Rattle.cecil_top.specs.Runnable.{AreRunnable, AreUntouched, CanRun}
+use Rattle.job_text.specs.Runnable.{AreRunnable, CanRun}
+use Rattle.cecil_top.specs.Untouched.{AreUntouched}
 use Rattle.cecil_top.specs.declared.actor.Actor.{Actor}
 use Rattle.cecil_top.specs.declared.record.ActorRecord.{ActorRecord}
 use Rattle.cecil_top.specs.inner.Actors.{AllHaveRun, FitModules, IsReady}

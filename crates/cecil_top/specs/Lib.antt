@@ -2,8 +2,8 @@ pub mod Commands
 pub mod Explained
 pub mod Explains
 pub mod RunText
-pub mod Runnable
 pub mod Tool
 pub mod ToolFiles
 pub mod ToolWords
+pub mod Untouched
 pub mod inner

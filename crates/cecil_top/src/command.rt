@@ -1,7 +1,7 @@
 //! One command of one actor.
 ghost use Rattle.std.specs.Prelude.{◌≡◌, ◌<◌, IfOk, OnOk, length};
 ghost use Rattle.job_text.specs.declared.command.Command.TheVariants as commands;
-ghost use Rattle.cecil_top.specs.Runnable.{CanRun};
+ghost use Rattle.job_text.specs.Runnable.{CanRun};
 ghost use Rattle.cecil_top.specs.declared.said.Said.TheVariants as saids;
 ghost use Rattle.cecil_top.specs.inner.Passes.{HasPasses, IsPassStep, IsSaidStep};
 

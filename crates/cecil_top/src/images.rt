@@ -1,8 +1,8 @@
 //! The images of a run, each with a core of its own.
 ghost use Rattle.std.specs.Prelude.{◌≡◌, ◌≤◌, ◌∷◌, ◌++◌, [], All, Err, IfErr, IfOk, IsUtf8, OnOk, map};
 ghost use Rattle.cecil_inspect.specs.Inspect.{IsReadImage};
-ghost use Rattle.cecil_top.specs.Runnable.{AreUntouched};
 ghost use Rattle.cecil_top.specs.ToolFiles.{AreImages};
+ghost use Rattle.cecil_top.specs.Untouched.{AreUntouched};
 ghost use Rattle.cecil_top.specs.inner.ToolSteps.{EndsImage, EndsImages, OpensCore};
 ghost use Rattle.cil_outside.specs.Causes.{Rose};
 ghost use Rattle.lazy_core.specs.Slots.{CoreState};

@@ -1,8 +1,9 @@
 //! The job file of a run.
-ghost use Rattle.std.specs.Prelude.{◌≡◌, ◌≤◌, Err, IfErr, IfOk};
+ghost use Rattle.std.specs.Prelude.{◌≡◌, ◌≤◌, Err, IfErr, IfOk, length};
 ghost use Rattle.cecil_top.specs.ToolFiles.{IsReadFile, IsReadJob};
 ghost use Rattle.cecil_top.specs.inner.ToolSteps.{EndsFile, EndsJob};
 ghost use Rattle.cil_outside.specs.Causes.{Rose};
+ghost use Rattle.job_text.specs.Runnable.{AreRunnable};
 
 use cecil_inspect::{FileCause, Status, file_status};
 use cil_base::{Bytes, NoMemory};
@@ -38,6 +39,7 @@ pub(crate) fn read_file<F: Folder>(
 /// The job of the file of a name, or the status that reading it ends with.
 pub(crate) fn read_job<F: Folder>(alloc: Global, folder: &mut F, name: &str) -> Result<Job, Status>
     ensures job { IfOk result (λ job. IsReadJob (F.files folder.old) name.now job) }
+    ensures runnable { IfOk result (λ job. AreRunnable (length job.modules) job.actors) }
     ensures status { IfErr result (λ status. EndsJob (F.files folder.old) name.now status) }
     ensures read { result ≡ Err Status.ReadFault → Rose (F.faults folder.old) (F.faults folder.new) }
     ensures files { F.files folder.new ≡ F.files folder.old }

@@ -2,7 +2,7 @@
 ghost use Rattle.std.specs.Prelude.{◌≡◌, ◌<◌, ◌≤◌, [], IfOk, List, OnOk, length};
 ghost use Rattle.turn_lock.specs.Passes.{fresh_passes};
 ghost use Rattle.job_text.specs.declared.command.Command.{Command};
-ghost use Rattle.cecil_top.specs.Runnable.{AreUntouched};
+ghost use Rattle.cecil_top.specs.Untouched.{AreUntouched};
 ghost use Rattle.cecil_top.specs.inner.Opens.{AllAreNew, AreHandedOut, AreOpened, with_pass};
 
 use crate::actor::Actor;

@@ -2,9 +2,10 @@
 ghost use Rattle.std.specs.Prelude.{◌≡◌, ◌<◌, ℕ, List, All, IfOk, [], false, length, map};
 ghost use Rattle.std.specs.Thread.{IsSync};
 ghost use Rattle.turn_lock.specs.Passes.{LockValue};
+ghost use Rattle.job_text.specs.Runnable.{AreRunnable};
 ghost use Rattle.lazy_core.specs.Slots.{CoreState};
 ghost use Rattle.cecil_top.specs.Explains.{Explains};
-ghost use Rattle.cecil_top.specs.Runnable.{AreRunnable, AreUntouched};
+ghost use Rattle.cecil_top.specs.Untouched.{AreUntouched};
 ghost use Rattle.cecil_top.specs.declared.actor.Actor.{Actor};
 ghost use Rattle.cecil_top.specs.inner.Actors.{AllHaveRun, HasRun, IsReady};
 ghost use Rattle.cecil_top.specs.inner.Ends.{record_of};

@@ -1,17 +1,17 @@
 //! What the program does.
-ghost use Rattle.std.specs.Prelude.{◌≡◌, ◌≤◌, ◌↔◌, Err, IfErr, IfOk, map, string_bytes};
+ghost use Rattle.std.specs.Prelude.{◌≡◌, ◌≤◌, ◌↔◌, Err, IfErr, IfOk, length, map, string_bytes};
 ghost use Rattle.cecil_inspect.specs.Inspect.{TellsFaults};
-ghost use Rattle.cecil_top.specs.Runnable.{AreUntouched};
 ghost use Rattle.cecil_top.specs.Tool.{IsRunOf, RunAnswers, RunCompletes, RunWrites, ToolAnswers, ToolCompletes, ToolWrites};
 ghost use Rattle.cecil_top.specs.ToolWords.{AreNoWords};
+ghost use Rattle.cecil_top.specs.Untouched.{AreUntouched};
 ghost use Rattle.cecil_top.specs.inner.ToolSteps.{EndsRun, IsTextOf};
 ghost use Rattle.cil_outside.specs.Causes.{Rose};
+ghost use Rattle.job_text.specs.Runnable.{AreRunnable};
 ghost use Rattle.lazy_core.specs.Slots.{CoreState};
 
 use crate::images::open_images;
 use crate::job_file::read_job;
 use crate::run::run_job;
-use crate::runnable::can_run;
 use crate::text::run_text;
 use crate::words::job_asked;
 use cecil_inspect::{Status, inspect, send};
@@ -33,12 +33,10 @@ fn text_of_run<R: Threads + Wait + Sync, G: Decoder + Sync>(
     given: List<List<Command>>,
     gate: &G,
 ) -> Result<Bytes, NoMemory>
-    requires { AreUntouched cores }
+    requires runnable { AreRunnable (length cores) given }
+    requires untouched { AreUntouched cores }
     ensures { IfOk result (IsTextOf (map (λ (core : CoreState). core.bytes) cores) given) }
 {
-    if !can_run(cores.len(), given.as_slice()) {
-        return Err(NoMemory);
-    }
     let ran = run_job(rt, alloc, cores, given, gate)?;
     run_text(alloc, &ran)
 }

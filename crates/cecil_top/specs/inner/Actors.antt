@@ -5,7 +5,7 @@ use Rattle.job_text.specs.References.{replaced}
 use Rattle.job_text.specs.declared.command.Command.{Command}
 use Rattle.cecil_top.specs.Commands.{token_made}
 use Rattle.cecil_top.specs.Explains.{AreDone}
-use Rattle.cecil_top.specs.Runnable.{CanRun}
+use Rattle.job_text.specs.Runnable.{CanRun}
 use Rattle.cecil_top.specs.declared.actor.Actor.{Actor}
 use Rattle.cecil_top.specs.declared.said.Said.{Said}
 use Rattle.cecil_top.specs.inner.Passes.{ExplainsSoFar, HasPasses, Shared}

@@ -9,7 +9,7 @@ use Rattle.node_read.specs.Image.{IsImageFile, RefusesImage}
 use Rattle.node_read.specs.declared.image.OpenRefusal.{OpenRefusal}
 use Rattle.cecil_top.specs.Explains.{Explains}
 use Rattle.cecil_top.specs.RunText.{run_text}
-use Rattle.cecil_top.specs.Runnable.{AreUntouched}
+use Rattle.cecil_top.specs.Untouched.{AreUntouched}
 use Rattle.cecil_top.specs.Tool.{RunAnswers}
 use Rattle.cecil_top.specs.ToolFiles.{AreImages, IsFirstUntaken, IsRefusedJob, IsUnread, IsUntaken}
 use Rattle.cecil_top.specs.declared.record.RunRecord.{RunRecord}

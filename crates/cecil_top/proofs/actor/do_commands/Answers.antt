@@ -1,6 +1,6 @@
 use Rattle.std.proofs.Common.{◌≡◌, ◌∙◌, ◌++◌, ◌∷◌, [], ◌<◌, sym, ap, subst, rules, length, length-append, slice_get, arith}
 use Rattle.job_text.specs.References.{replaced}
-use Rattle.cecil_top.specs.Runnable.{CanRun}
+use Rattle.job_text.specs.Runnable.{CanRun}
 use Rattle.cecil_top.proofs.ActorLemmas.{next_done, next_is, replaced_runs}
 use Rattle.cecil_top.proofs.PlaceLemmas.{all_at, read_at}
 use Rattle.cecil_top.proofs.actor.do_commands.Goals as goal

@@ -2,7 +2,7 @@ use Rattle.std.proofs.Common.{◌≡◌, ◌∙◌, sym, ap, subst, rules, lengt
 use Rattle.std.proofs.lemmas.List.{take_at}
 use Rattle.job_text.specs.declared.command.Command.{Command}
 use Rattle.cecil_top.specs.Explains.{Explains}
-use Rattle.cecil_top.specs.Runnable.{AreRunnable}
+use Rattle.job_text.specs.Runnable.{AreRunnable}
 use Rattle.cecil_top.specs.declared.actor.Actor.{Actor}
 use Rattle.cecil_top.specs.declared.record.ActorRecord.{ActorRecord}
 use Rattle.cecil_top.specs.inner.Ends.{record_of}
