@@ -1,3 +1,4 @@
+use crate::gates::{GateKind, hold, meet};
 use crate::setting::Setting;
 use cecil_top::{Status, tool, tool_sound};
 use cil_base::NoMemory;
@@ -26,43 +27,59 @@ fn run<R: Threads + Wait + Sync, F: Folder, O: Outlet, G: Decoder + Sync>(
     tool(rt, alloc, words, folder, out, gate)
 }
 
-/// Runs `tool` over a folder and an outlet in memory: those that never fail where the setting is sound.
-pub fn outcome_of<R: Threads + Wait + Sync>(
+/// Runs `tool` over a folder and an outlet of which no call fails.
+fn over_sound<R: Threads + Wait + Sync>(
     rt: &R,
     alloc: Global,
     setting: Setting,
 ) -> Result<Outcome, NoMemory> {
-    let Setting {
-        words,
-        files,
-        failing_reads,
-        failing_writes,
-        sound,
-    } = setting;
-    if sound {
-        let mut folder = SoundFolder::new(files);
-        let mut out = SoundOutlet::new(alloc);
-        let status = tool_sound(
-            rt,
-            alloc,
-            words.as_slice(),
-            &mut folder,
-            &mut out,
-            &OpenGate,
-        );
-        let text = Vec::from_slice(alloc, out.written())?;
-        return Ok(Outcome { status, text });
-    }
-    let mut folder = TableFolder::new(files, failing_reads);
-    let mut out = MemoryOutlet::new(alloc, failing_writes);
-    let status = run(
+    let mut folder = SoundFolder::new(setting.files);
+    let mut out = SoundOutlet::new(alloc);
+    let status = tool_sound(
         rt,
         alloc,
-        words.as_slice(),
+        setting.words.as_slice(),
         &mut folder,
         &mut out,
         &OpenGate,
     );
     let text = Vec::from_slice(alloc, out.written())?;
     Ok(Outcome { status, text })
+}
+
+/// Runs `tool` over a folder and an outlet of which the named calls fail.
+pub fn over_tables<R: Threads + Wait + Sync, G: Decoder + Sync>(
+    rt: &R,
+    alloc: Global,
+    setting: Setting,
+    gate: &G,
+) -> Result<Outcome, NoMemory> {
+    let mut folder = TableFolder::new(setting.files, setting.failing_reads);
+    let mut out = MemoryOutlet::new(alloc, setting.failing_writes);
+    let status = run(
+        rt,
+        alloc,
+        setting.words.as_slice(),
+        &mut folder,
+        &mut out,
+        gate,
+    );
+    let text = Vec::from_slice(alloc, out.written())?;
+    Ok(Outcome { status, text })
+}
+
+/// Runs `tool` over a folder and an outlet in memory.
+pub fn outcome_of<R: Threads + Wait + Sync>(
+    rt: &R,
+    alloc: Global,
+    setting: Setting,
+) -> Result<Outcome, NoMemory> {
+    if setting.sound {
+        return over_sound(rt, alloc, setting);
+    }
+    match setting.gate {
+        GateKind::Open => over_tables(rt, alloc, setting, &OpenGate),
+        GateKind::Hold(actor) => hold(rt, alloc, actor, setting),
+        GateKind::Meet => meet(rt, alloc, setting),
+    }
 }

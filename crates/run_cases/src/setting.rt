@@ -1,3 +1,4 @@
+use crate::gates::GateKind;
 use cil_base::{List, NoMemory};
 use cil_outside::NamedFile;
 use std::alloc::Global;
@@ -5,7 +6,8 @@ use std::fs;
 use std::io::Read;
 use std::rt::Files;
 
-/// What a case runs on: the words, the files of the folder, the numbers of the calls that fail, and whether no call can.
+/// What a case runs on: the words, the files of the folder, the numbers of the calls that fail, whether no call can, and
+/// the gate of the actors.
 #[derive(Drop)]
 pub struct Setting {
     pub words: Vec<String>,
@@ -13,6 +15,7 @@ pub struct Setting {
     pub failing_reads: Vec<u64>,
     pub failing_writes: Vec<u64>,
     pub sound: bool,
+    pub gate: GateKind,
 }
 
 /// A number in decimal, or 0.
@@ -94,6 +97,8 @@ fn change<R: Files>(
         Some("read") => setting.failing_reads.push(number(first))?,
         Some("write") => setting.failing_writes.push(number(first))?,
         Some("sound") => setting.sound = true,
+        Some("hold") => setting.gate = GateKind::Hold(number(first).min(1) as u32),
+        Some("meet") => setting.gate = GateKind::Meet,
         _ => {}
     }
     Ok(())
@@ -121,6 +126,7 @@ pub fn setting_of<R: Files>(alloc: Global, rt: &R, line: &str) -> Result<Setting
         failing_reads: Vec::new(alloc),
         failing_writes: Vec::new(alloc),
         sound: false,
+        gate: GateKind::Open,
     };
     if !job.is_empty() {
         let bytes = Vec::from_slice(alloc, job.as_bytes())?;
