@@ -16,12 +16,19 @@ pub fn add_decimal(text: &mut Bytes, number: u64) -> Result<(), NoMemory>
     text.extend(digits.as_bytes())
 }
 
+/// Adds what is counted, and a number.
+fn add_counted(text: &mut Bytes, name: &[u8], number: u64) -> Result<(), NoMemory>
+    ensures { OnOk result (text.new ≡ text.old ++ (name.now ++ decimal number)) }
+{
+    text.extend(name)?;
+    add_decimal(text, number)
+}
+
 /// Adds a refusal that has a number of its own, in brackets.
 fn add_numbered(text: &mut Bytes, name: &[u8], number: u64) -> Result<(), NoMemory>
     ensures { OnOk result (text.new ≡ text.old ++ (name.now ++ decimal number ++ codes ")")) }
 {
-    text.extend(name)?;
-    add_decimal(text, number)?;
+    add_counted(text, name, number)?;
     text.extend(b")")
 }
 
@@ -67,14 +74,6 @@ pub(crate) fn add_refusal(text: &mut Bytes, refusal: OpenRefusal) -> Result<(), 
     }
 }
 
-/// Adds that a count passes its limit.
-fn add_over_limit(text: &mut Bytes, count: u64) -> Result<(), NoMemory>
-    ensures { OnOk result (text.new ≡ text.old ++ (codes "over the limit " ++ decimal count)) }
-{
-    text.extend(b"over the limit ")?;
-    add_decimal(text, count)
-}
-
 /// Adds which value in the place of a command is none.
 fn add_no_command(text: &mut Bytes, actor: u32, command: u32) -> Result<(), NoMemory>
     ensures { OnOk result (text.new ≡ text.old ++ (codes "no command at " ++ decimal actor ++ 0x2e ∷ decimal command)) }
@@ -92,7 +91,7 @@ pub(crate) fn add_job_refusal(text: &mut Bytes, refusal: JobRefusal) -> Result<(
     match refusal {
         JobRefusal::NotJson => text.extend(b"not JSON"),
         JobRefusal::Shape => text.extend(b"not a job"),
-        JobRefusal::OverLimit(count) => add_over_limit(text, count),
+        JobRefusal::OverLimit(count) => add_counted(text, b"over the limit ", count),
         JobRefusal::NotACommand { actor, command } => add_no_command(text, actor, command),
     }
 }
