@@ -9,11 +9,12 @@ use Rattle.node_read.specs.Image.{RefusesImage}
 use Rattle.node_read.specs.declared.image.OpenRefusal.{OpenRefusal}
 use Rattle.node_read.specs.declared.image.OpenRefusal.TheVariants as opens
 use Rattle.cecil_inspect.proofs.LimitLemmas.{told}
-use Rattle.cecil_inspect.specs.Inspect.{BytesCallFor, CallsFor, LengthCallsFor}
+use Rattle.cecil_inspect.specs.Inspect.{BytesCallFor, CallsFor, LengthCallsFor, Writes}
 use Rattle.cecil_inspect.specs.Steps.{Ends, IsRefused}
 use Rattle.cecil_inspect.specs.declared.status.Status.{Status}
 use Rattle.cecil_inspect.specs.declared.status.Status.TheVariants as ends
 use Rattle.cecil_inspect.specs.declared.status.FileCause.TheVariants.{Refused}
+use Rattle.cecil_inspect.specs.declared.words.Request.{Request}
 
 pub not_longer : (n : ℕ) → n ≤ 2 ^ 26 → nat_lt (2 ^ 26) n ≡ false
 not_longer n le = grind (arith, nat_tests)
@@ -43,3 +44,18 @@ refused_ends files name bytes b r status is within same refuses (inl refused) =
     (subst (λ x. length x ≤ 2 ^ 26) (sym same) within) refused.0 refuses)
 refused_ends files name bytes b r status is within same refuses (inr wants) =
     subst (λ s. Ends files name s) (sym wants) (memory_ends files name)
+
+same_text : (new old : List ℕ) → Some new ≡ Some old → new ≡ old
+same_text new old is = cc
+
+-- where the status is neither Ok nor a failed write nothing was added
+pub inspect_adds_nothing : (files : List NamedFile) (a : Option (List ℕ × Request)) (old new : List ℕ) (status : Status)
+    → Writes (Some files) a (Some old) (Some new) status → status ≢ ends.Ok → status ≢ ends.WriteFault → new ≡ old
+inspect_adds_nothing files None old new status is ok fault = same_text new old is
+inspect_adds_nothing files (Some a) old new ends.Ok is ok fault = absurd (ok refl)
+inspect_adds_nothing files (Some a) old new ends.Usage is ok fault = same_text new old is
+inspect_adds_nothing files (Some a) old new (ends.Job refusal) is ok fault = same_text new old is
+inspect_adds_nothing files (Some a) old new (ends.File name cause) is ok fault = same_text new old is
+inspect_adds_nothing files (Some a) old new ends.ReadFault is ok fault = same_text new old is
+inspect_adds_nothing files (Some a) old new ends.WriteFault is ok fault = absurd (fault refl)
+inspect_adds_nothing files (Some a) old new ends.NoMemory is ok fault = same_text new old is

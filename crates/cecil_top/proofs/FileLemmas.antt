@@ -1,5 +1,5 @@
 -- The files of a run as they are read, one after the other.
-use Rattle.std.proofs.Common.{◌≡◌, refl, sym, ◌∙◌, ap, subst, inl, inr, ℕ, ◌+◌, ◌<◌, ◌≤◌, ◌^◌, List, [], ◌∷◌, ◌++◌, arith, get_or, length, map, slice_get, take}
+use Rattle.std.proofs.Common.{◌≡◌, refl, sym, ◌∙◌, ap, subst, inl, inr, ℕ, suc, ◌+◌, ◌<◌, ◌≤◌, ◌^◌, List, [], ◌∷◌, ◌++◌, arith, get_or, length, map, slice_get, take}
 use Rattle.std.proofs.Common.{All, Option, Some, None}
 use Rattle.std.proofs.lemmas.List.{map-append, take_all, take_more}
 use Rattle.std.proofs.lemmas.List.Elements.{All-append, All-cons, All-nil}
@@ -92,6 +92,14 @@ images_taken files [] (b ∷ bs) are = absurd are
 images_taken files (n ∷ names) [] are = absurd are
 images_taken files (n ∷ names) (b ∷ bs) are =
     All-cons (IsTaken files) n names (b, are.0) (images_taken files names bs are.1)
+
+-- one for each name
+pub as_many_images : (files : Option (List NamedFile)) (names bs : List (List ℕ)) → AreImages files names bs
+    → length bs ≡ length names
+as_many_images files [] [] are = refl
+as_many_images files [] (b ∷ bs) are = absurd are
+as_many_images files (n ∷ names) [] are = absurd are
+as_many_images files (n ∷ names) (b ∷ bs) are = ap suc (as_many_images files names bs are.1)
 
 -- the first that is not ends the reading of all
 pub first_ends_images : (files : Option (List NamedFile)) (names bs : List (List ℕ)) (i : ℕ) (name : List ℕ)

@@ -13,3 +13,4 @@ pub mod SendLemmas
 pub mod TextLemmas
 pub mod FileLemmas
 pub mod ToolLemmas
+pub mod SoundLemmas

@@ -87,12 +87,12 @@ one_job : (job other : Job) (r : Result Job JobRefusal) → r ≡ Ok job → r �
 one_job job other r is so = cc
 
 no_refusal : (job : Job) (refusal : JobRefusal) (r : Result Job JobRefusal) → r ≡ Ok job → r ≡ Err refusal → ⊥
-no_refusal job refusal r is no = cc
+no_refusal job refusal r is bad = cc
 
 not_refused : (text : List ℕ) (job : Job) (refusal : JobRefusal) → IsJobOf text (Ok job)
     → IsJobOf text (Err (fails.Refused refusal)) → ⊥
-not_refused text job refusal is no =
-    is.not_json (λ d json. no_refusal job refusal _ (is.json d json) (no.json d json))
+not_refused text job refusal is bad =
+    is.not_json (λ d json. no_refusal job refusal _ (is.json d json) (bad.json d json))
 
 no_other : (text : List ℕ) (job other : Job) → IsJobOf text (Ok job) → IsJobOf text (Ok other) → (job ≢ other → ⊥)
 no_other text job other is so differ =
@@ -101,19 +101,19 @@ no_other text job other is so differ =
 -- so a told job that is read is not refused
 read_unrefused : (files : List NamedFile) (name : List ℕ) (job : Job) (refusal : JobRefusal)
     → IsReadJob (Some files) name job → IsRefusedJob (Some files) name refusal → ⊥
-read_unrefused files name job refusal is no =
-    let same : is.text ≡ no.text = one_content files name is.text no.text is.read.content no.read.content in
-    not_refused no.text job refusal (subst (λ t. IsJobOf t (Ok job)) same is.denotes) no.refused
+read_unrefused files name job refusal is bad =
+    let same : is.text ≡ bad.text = one_content files name is.text bad.text is.read.content bad.read.content in
+    not_refused bad.text job refusal (subst (λ t. IsJobOf t (Ok job)) same is.denotes) bad.refused
 
 -- and a told file that is read is there and short enough
 read_there : (files : List NamedFile) (name : List ℕ) (max : ℕ) (b : List ℕ) (cause : FileCause)
     → IsReadFile (Some files) name max b → IsUnread (Some files) name max cause → ⊥
-read_there files name max b Missing is no = is_there files name b is.content no
-read_there files name max b TooLong is no =
-    let same : no.0 ≡ b = one_content files name no.0 b no.1 is.content in
-    let long : max < length b = subst (λ t. max < length t) same no.2 in
+read_there files name max b Missing is bad = is_there files name b is.content bad
+read_there files name max b TooLong is bad =
+    let same : bad.0 ≡ b = one_content files name bad.0 b bad.1 is.content in
+    let long : max < length b = subst (λ t. max < length t) same bad.2 in
     omega (arith, long, is.short)
-read_there files name max b (Refused refusal) is no = no
+read_there files name max b (Refused refusal) is bad = bad
 
 told_some : (r : OpenRefusal) → IsToldRefusal r → r ≢ opens.NoMemory
 told_some r is same = subst (λ x. IsToldRefusal x) same is
@@ -124,14 +124,14 @@ not_both n short long = grind (arith, nat_tests)
 -- a told image is not refused
 taken_untaken : ImageIsNotRefused → (files : List NamedFile) (name : List ℕ) (cause : FileCause)
     → IsTaken (Some files) name → IsUntaken (Some files) name cause → ⊥
-taken_untaken law files name Missing is no = is_there files name is.0 is.1.content no
-taken_untaken law files name TooLong is no =
-    let same : no.0 ≡ is.0 = one_content files name no.0 is.0 no.1 is.1.content in
-    not_both (length is.0) is.1.short (subst (λ t. 2 ^ 26 < length t) same no.2)
-taken_untaken law files name (Refused refusal) is no =
-    let same : no.b ≡ is.0 = one_content files name no.b is.0 no.read.content is.1.content in
-    let some : refusal ≢ opens.NoMemory = told_some refusal no.told in
-    (law is.0 refusal refusal some some (subst (λ b. RefusesImage b refusal) same no.refused)).0 is.1.image
+taken_untaken law files name Missing is bad = is_there files name is.0 is.1.content bad
+taken_untaken law files name TooLong is bad =
+    let same : bad.0 ≡ is.0 = one_content files name bad.0 is.0 bad.1 is.1.content in
+    not_both (length is.0) is.1.short (subst (λ t. 2 ^ 26 < length t) same bad.2)
+taken_untaken law files name (Refused refusal) is bad =
+    let same : bad.b ≡ is.0 = one_content files name bad.b is.0 bad.read.content is.1.content in
+    let some : refusal ≢ opens.NoMemory = told_some refusal bad.told in
+    (law is.0 refusal refusal some some (subst (λ b. RefusesImage b refusal) same bad.refused)).0 is.1.image
 
 -- none of the files of a whole job is missed
 none_untaken : ImageIsNotRefused → (files : List NamedFile) (names : List (List ℕ)) (other : List ℕ) (cause : FileCause)

@@ -4,7 +4,7 @@ ghost use Rattle.cecil_top.specs.ToolWords.{job_asked};
 ghost use Rattle.cil_outside.specs.SoundFolder.{held_files};
 ghost use Rattle.cil_outside.specs.SoundOutlet.{held_text};
 
-use crate::tool::tool;
+use crate::program::tool;
 use cecil_inspect::Status;
 use cil_outside::{SoundFolder, SoundOutlet};
 use shared_module::Decoder;

@@ -1,7 +1,7 @@
 use Rattle.std.proofs.Common.{subst}
 use Rattle.cecil_inspect.specs.Steps.{Sends}
 use Rattle.cecil_top.proofs.ToolLemmas.{ended_answers, ended_writes, sent_answers, sent_writes}
-use Rattle.cecil_top.proofs.tool.run.Goals as goal
+use Rattle.cecil_top.proofs.program.run.Goals as goal
 
 pub returns-in-Ok-clause-cause : goal.returns-in-Ok-clause-cause
 returns-in-Ok-clause-cause g c =

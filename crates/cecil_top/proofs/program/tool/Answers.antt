@@ -5,7 +5,7 @@ use Rattle.cecil_inspect.specs.Words.{asked}
 use Rattle.cecil_top.specs.Tool.{RunAnswers, RunCompletes, RunWrites}
 use Rattle.cecil_top.specs.ToolWords.{job_asked}
 use Rattle.cecil_top.proofs.ToolLemmas.{completes, never_usage, when_none, when_some}
-use Rattle.cecil_top.proofs.tool.tool.Goals as goal
+use Rattle.cecil_top.proofs.program.tool.Goals as goal
 
 pub returns-in-Some-clause-usage : goal.returns-in-Some-clause-usage
 returns-in-Some-clause-usage g c =

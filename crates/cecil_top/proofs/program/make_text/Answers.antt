@@ -1,9 +1,11 @@
-use Rattle.std.proofs.Common.{subst, map, rules}
+use Rattle.std.proofs.Common.{◌≡◌, sym, ◌∙◌, ap, subst, length, map, rules}
+use Rattle.std.proofs.lemmas.List.{length-map}
+use Rattle.job_text.specs.Runnable.{AreRunnable}
 use Rattle.lazy_core.specs.Slots.{CoreState}
 use Rattle.cecil_top.specs.ToolFiles.{AreImages}
 use Rattle.cecil_top.specs.inner.ToolSteps.{EndsImages}
-use Rattle.cecil_top.proofs.FileLemmas.{images_end_run, job_ends_run, rose_before}
-use Rattle.cecil_top.proofs.tool.make_text.Goals as goal
+use Rattle.cecil_top.proofs.FileLemmas.{as_many_images, images_end_run, job_ends_run, rose_before}
+use Rattle.cecil_top.proofs.program.make_text.Goals as goal
 
 pub returns-in_err-job-clause-status : goal.returns-in_err-job-clause-status
 returns-in_err-job-clause-status g c =
@@ -22,6 +24,15 @@ returns-in_err-cores-clause-status g c =
     (subst (λ ns. EndsImages (g.F.Folder.files c.read_job.new.folder) ns status) c.as_slice.ensures
     c.in_err-cores.ensures.status)) in
     search rules
+
+pub text_of_run-requires-clause-runnable : goal.text_of_run-requires-clause-runnable
+text_of_run-requires-clause-runnable g c =
+    let job = c.in_ok-job.job in
+    let cores = c.in_ok-cores.cores in
+    let many : length cores ≡ length job.modules =
+    sym (length-map cores (λ (core : CoreState). core.bytes))
+    ∙ as_many_images _ c.as_slice.result.now _ c.in_ok-cores.ensures.images ∙ ap length c.as_slice.ensures in
+    subst (λ n. AreRunnable n job.actors) (sym many) c.in_ok-job.ensures.runnable
 
 pub returns-in-Ok-clause-text : goal.returns-in-Ok-clause-text
 returns-in-Ok-clause-text g c =
