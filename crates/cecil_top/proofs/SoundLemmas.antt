@@ -31,7 +31,9 @@ sound_ends files name old new status writes (inr wants) = inr wants
 sound_ends files name old new status writes (inl ok) =
     let added : RunWrites (Some files) name (Some old) (Some new) ends.Ok =
     subst (λ s. RunWrites (Some files) name (Some old) (Some new) s) ok writes in
-    inl (ok, added.0, added.1, same_text new (old ++ added.0) added.2)
+    let told : (text : List ℕ) × IsRunOf (Some files) name text × (new ≡ old ++ text) =
+    (added.0, added.1, same_text new (old ++ added.0) added.2) in
+    inl (ok, told)
 
 -- where the status is neither Ok nor a failed write nothing was added by a run,
 run_adds_nothing : (files : List NamedFile) (name old new : List ℕ) (status : Status)

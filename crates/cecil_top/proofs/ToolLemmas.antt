@@ -1,6 +1,7 @@
 -- How a run ends, and that a whole job is run.
-use Rattle.std.proofs.Common.{◌≡◌, ◌≢◌, refl, sym, ◌∙◌, ap, subst, inl, inr, ◌⊎◌, ℕ, ◌<◌, ◌^◌, List, All, Option, Some, None, false, arith, length, nat_lt}
+use Rattle.std.proofs.Common.{◌≡◌, ◌≢◌, refl, sym, ◌∙◌, ap, subst, inl, inr, ◌⊎◌, ℕ, ◌<◌, ◌^◌, List, All, Option, Some, None, false, arith, length, map, nat_lt}
 use Rattle.std.proofs.lemmas.Bool.Decides.{nat_tests}
+use Rattle.std.proofs.lemmas.List.{length-map}
 use Rattle.std.specs.Prelude.{MatchOption, Result, Ok, Err}
 use Rattle.cecil_inspect.specs.Inspect.{IsContent, IsToldRefusal, TellsFaults}
 use Rattle.cecil_inspect.specs.Steps.{Sends}
@@ -13,16 +14,47 @@ use Rattle.cil_outside.specs.Folder.{content_of}
 use Rattle.cil_outside.specs.declared.files.NamedFile.{NamedFile}
 use Rattle.job_text.specs.Answers.{IsJobOf}
 use Rattle.job_text.specs.Parts.{Job}
+use Rattle.job_text.specs.Runnable.{AreRunnable}
+use Rattle.job_text.specs.declared.command.Command.{Command}
 use Rattle.job_text.specs.declared.job.JobFail.TheVariants as fails
 use Rattle.job_text.specs.declared.job.JobRefusal.{JobRefusal}
+use Rattle.lazy_core.specs.Slots.{CoreState}
 use Rattle.node_read.specs.Image.{ImageIsNotRefused, RefusesImage}
 use Rattle.node_read.specs.declared.image.OpenRefusal.{OpenRefusal}
 use Rattle.node_read.specs.declared.image.OpenRefusal.TheVariants as opens
+use Rattle.cecil_top.specs.Explains.{Explains}
 use Rattle.cecil_top.specs.Tool.{IsFirstMissed, IsRunOf, IsWholeJob, RunAnswers, RunCompletes, RunWrites}
-use Rattle.cecil_top.specs.ToolFiles.{IsFirstUntaken, IsReadFile, IsReadJob, IsRefusedJob, IsTaken, IsUnread, IsUntaken}
-use Rattle.cecil_top.specs.inner.ToolSteps.{EndsRun}
-use Rattle.cecil_top.proofs.FileLemmas.{images_taken}
+use Rattle.cecil_top.specs.ToolFiles.{AreImages, IsFirstUntaken, IsReadFile, IsReadJob, IsRefusedJob, IsTaken, IsUnread, IsUntaken}
+use Rattle.cecil_top.specs.inner.ToolSteps.{EndsRun, IsTextOf}
+use Rattle.cecil_top.proofs.FileLemmas.{as_many_images, images_taken}
 use Rattle.cecil_top.proofs.PlaceLemmas.{all_at}
+
+-- a job can be run whose images are opened,
+pub opened_runs : (files : Option (List NamedFile)) (job : Job) (names : List (List ℕ)) (cores : List CoreState)
+    (actors : List (List Command)) → names ≡ job.modules → actors ≡ job.actors
+    → AreImages files names (map (λ (core : CoreState). core.bytes) cores) → AreRunnable (length job.modules) job.actors
+    → AreRunnable (length cores) actors
+opened_runs files job names cores actors named given images runnable =
+    let many : length cores ≡ length job.modules =
+    sym (length-map cores (λ (core : CoreState). core.bytes))
+    ∙ as_many_images files names (map (λ (core : CoreState). core.bytes) cores) images ∙ ap length named in
+    subst (λ cs. AreRunnable (length cores) cs) (sym given) (subst (λ n. AreRunnable n job.actors) (sym many) runnable)
+
+-- and the text of its run is what comes of its file
+pub text_is_of_run : (files now : Option (List NamedFile)) (name : List ℕ) (job : Job) (names : List (List ℕ))
+    (cores : List CoreState) (actors : List (List Command)) (text : List ℕ) → names ≡ job.modules → actors ≡ job.actors
+    → now ≡ files → IsReadJob files name job → AreImages now names (map (λ (core : CoreState). core.bytes) cores)
+    → IsTextOf (map (λ (core : CoreState). core.bytes) cores) actors text → IsRunOf files name text
+text_is_of_run files now name job names cores actors text named given tells read images told = record {
+  job = job;
+  images = map (λ (core : CoreState). core.bytes) cores;
+  r = told.r;
+  read = read;
+  opened = subst (λ f. AreImages f job.modules (map (λ (core : CoreState). core.bytes) cores)) tells
+      (subst (λ ns. AreImages now ns (map (λ (core : CoreState). core.bytes) cores)) named images);
+  explains = subst (λ cs. Explains (map (λ (core : CoreState). core.bytes) cores) cs told.r) given told.explains;
+  prints = told.prints;
+}
 
 run_whole : (files : Option (List NamedFile)) (name text : List ℕ) → IsRunOf files name text → IsWholeJob files name
 run_whole files name text run = (run.job, run.read, images_taken files run.job.modules run.images run.opened)
