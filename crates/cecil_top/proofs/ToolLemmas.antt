@@ -3,7 +3,7 @@ use Rattle.std.proofs.Common.{◌≡◌, ◌≢◌, refl, sym, ◌∙◌, ap, su
 use Rattle.std.proofs.lemmas.Bool.Decides.{nat_tests}
 use Rattle.std.proofs.lemmas.List.{length-map}
 use Rattle.std.specs.Prelude.{MatchOption, Result, Ok, Err}
-use Rattle.cecil_inspect.specs.Inspect.{IsContent, IsToldRefusal, TellsFaults}
+use Rattle.cecil_inspect.specs.Inspect.{IsToldRefusal, TellsFaults}
 use Rattle.cecil_inspect.specs.Steps.{Sends}
 use Rattle.cecil_inspect.specs.declared.status.FileCause.{FileCause}
 use Rattle.cecil_inspect.specs.declared.status.FileCause.TheVariants.{Missing, TooLong, Refused}

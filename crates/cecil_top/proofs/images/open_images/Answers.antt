@@ -1,4 +1,4 @@
-use Rattle.std.proofs.Common.{◌≡◌, ◌∙◌, subst, map, arith, rules}
+use Rattle.std.proofs.Common.{◌∙◌, subst, map, arith, rules}
 use Rattle.std.specs.Prelude.{IsUtf8}
 use Rattle.cecil_inspect.specs.Inspect.{IsReadImage}
 use Rattle.lazy_core.specs.Slots.{CoreState}
