@@ -16,12 +16,7 @@ fn add_of(text: &mut Bytes, word: &[u8], token: Token) -> Result<(), NoMemory> {
 }
 
 /// Adds a word, a token and bytes.
-fn add_bytes(
-    text: &mut Bytes,
-    word: &[u8],
-    token: Token,
-    bytes: &Bytes,
-) -> Result<(), NoMemory> {
+fn add_bytes(text: &mut Bytes, word: &[u8], token: Token, bytes: &Bytes) -> Result<(), NoMemory> {
     add_of(text, word, token)?;
     text.push(b' ')?;
     add_hex(text, bytes.as_slice())
