@@ -13,12 +13,12 @@ pub list_of_items : (ds : List Data) → list_of (items_of ds) ≡ ds
 list_of_items [] = refl
 list_of_items (d ∷ ds) = ap (λ xs. d ∷ xs) (list_of_items ds)
 
-command_place : (ms : List (String Global × Data)) → members_len (members_of ms) ≡ length ms
-command_place [] = refl
-command_place (m ∷ ms) = ap suc (command_place ms)
+entries_counted : (ms : List (String Global × Data)) → members_len (members_of ms) ≡ length ms
+entries_counted [] = refl
+entries_counted (m ∷ ms) = ap suc (entries_counted ms)
 
 -- an object has as many members as its map has entries
 pub members_counted : (ms : List (String Global × Value)) → members_len (members_view ms) ≡ length ms
 members_counted ms =
-    command_place (map (λ (m : String Global × Value). (m.0, view m.1)) ms)
+    entries_counted (map (λ (m : String Global × Value). (m.0, view m.1)) ms)
     ∙ length-map ms (λ (m : String Global × Value). (m.0, view m.1))

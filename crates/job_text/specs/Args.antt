@@ -10,7 +10,7 @@ use Rattle.node_model.specs.declared.cell.Cell.TheVariants as cells
 use Rattle.node_model.specs.declared.edit.OptSig.TheVariants as sigs
 use Rattle.node_model.specs.declared.query.OptText.TheVariants as texts
 use Rattle.serde_json.specs.Data.{Data}
-use Rattle.job_text.specs.ArgumentValues.{given_word, given_table, given_link, given_column, given_code, given_kind, given_member_table, given_sig, given_sig_or_null, given_text_or_null, given_code_operand}
+use Rattle.job_text.specs.ArgumentValues.{given_u32, given_table, given_link, given_column, given_code, given_kind, given_member_table, given_sig, given_sig_or_null, given_text_or_null, given_code_operand}
 use Rattle.job_text.specs.Cells.{given_column_cell, given_cells, given_bytes}
 use Rattle.job_text.specs.Handlers.{kind_with}
 use Rattle.job_text.specs.Tokens.{given_token}
@@ -63,7 +63,7 @@ with_argument n before kinds.Cells a d =
     option_map (λ cs. record a { cells = cs }) (given_cells a.«module» before a.table d)
 with_argument n before kinds.Sig a d = option_map (λ s. record a { sig = sigs.Is s }) (given_sig a.table d)
 with_argument n before kinds.SigOrNull a d = option_map (λ s. record a { sig = s }) (given_sig_or_null a.table d)
-with_argument n before kinds.At a d = option_map (λ k. record a { at = k }) (given_word d)
+with_argument n before kinds.At a d = option_map (λ k. record a { at = k }) (given_u32 d)
 with_argument n before kinds.MaxStack a d = option_map (λ k. record a { max_stack = k }) (given_number 65536 d)
 with_argument n before kinds.InitLocals a d = option_map (λ b. record a { init_locals = b }) (given_flag d)
 with_argument n before kinds.Namespace a d = option_map (λ t. record a { namespace = t }) (given_text d)
@@ -76,13 +76,13 @@ with_argument n before kinds.Operand a d =
 with_argument n before kinds.HandlerKind a d =
     option_map (λ k. record a { handler = record a.handler { kind = k } }) (given_kind d)
 with_argument n before kinds.TryStart a d =
-    option_map (λ k. record a { handler = record a.handler { try_start = k } }) (given_word d)
+    option_map (λ k. record a { handler = record a.handler { try_start = k } }) (given_u32 d)
 with_argument n before kinds.TryEnd a d =
-    option_map (λ k. record a { handler = record a.handler { try_end = k } }) (given_word d)
+    option_map (λ k. record a { handler = record a.handler { try_end = k } }) (given_u32 d)
 with_argument n before kinds.HandlerStart a d =
-    option_map (λ k. record a { handler = record a.handler { start = k } }) (given_word d)
+    option_map (λ k. record a { handler = record a.handler { start = k } }) (given_u32 d)
 with_argument n before kinds.HandlerEnd a d =
-    option_map (λ k. record a { handler = record a.handler { end = k } }) (given_word d)
+    option_map (λ k. record a { handler = record a.handler { end = k } }) (given_u32 d)
 with_argument n before kinds.HandlerWith a d =
     option_map (λ k. record a { handler = record a.handler { kind = k } }) (kind_with a.«module» before a.handler.kind d)
 

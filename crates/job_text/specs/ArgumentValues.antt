@@ -19,9 +19,8 @@ use Rattle.job_text.specs.Operands.{given_operand}
 use Rattle.job_text.specs.Values.{is_null, given_number, given_text}
 use Rattle.job_text.specs.declared.command.Command.{Command}
 
--- a u32
-unfoldable pub given_word : Data → Option ℕ
-given_word d = given_number (2 ^ 32) d
+unfoldable pub given_u32 : Data → Option ℕ
+given_u32 d = given_number (2 ^ 32) d
 
 -- what a text names
 unfoldable pub given_table : Data → Option ℕ

@@ -2,7 +2,7 @@
 //! of its kind.
 
 ghost use Rattle.std.specs.Prelude.{◌≡◌, []};
-ghost use Rattle.job_text.specs.ArgumentValues.{given_code, given_column, given_link, given_member_table, given_table, given_word};
+ghost use Rattle.job_text.specs.ArgumentValues.{given_code, given_column, given_link, given_member_table, given_table, given_u32};
 ghost use Rattle.job_text.specs.Args.{if_fits, with_argument};
 ghost use Rattle.job_text.specs.declared.form.ArgumentKind.TheVariants as kinds;
 ghost use Rattle.serde_json.specs.View.{view};
@@ -17,9 +17,9 @@ use md_schema::{Link, table};
 use serde_json::Value;
 
 /// The number of four bytes that a value gives.
-#[tactic(auto, unfolding(crate::specs::ArgumentValues::given_word))]
-pub(crate) fn given_word(value: &Value) -> Option<u32>
-    ensures { result ≡ given_word (view value.now) }
+#[tactic(auto, unfolding(crate::specs::ArgumentValues::given_u32))]
+pub(crate) fn given_u32(value: &Value) -> Option<u32>
+    ensures { result ≡ given_u32 (view value.now) }
 {
     let number = given_number(value, 0x1_0000_0000)?;
     Some(number as u32)
@@ -187,7 +187,7 @@ pub(crate) fn read_column(args: &mut Args, value: &Value) -> bool
 pub(crate) fn read_at(args: &mut Args, value: &Value) -> bool
     ensures { if_fits result args.new ≡ with_argument 0 [] kinds.At args.old (view value.now) }
 {
-    match given_word(value) {
+    match given_u32(value) {
         Some(at) => {
             args.at = at;
             true

@@ -6,7 +6,7 @@ use node_model::{Edit, Query};
 use std::alloc::Global;
 
 /// What an actor does with a module, by the module's number in the job. A token of table 0xFF is a back reference: it
-/// stands for the row that the actor's command of that number made, command_place from 0, or for the root where it made none.
+/// stands for the row that the actor's command of that number made, counted from 0, or for the root where it made none.
 #[derive(Drop)]
 pub enum Command {
     /// A question.

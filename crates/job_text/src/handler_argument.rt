@@ -8,7 +8,7 @@ ghost use Rattle.job_text.specs.declared.form.ArgumentKind.TheVariants as kinds;
 ghost use Rattle.serde_json.specs.View.{view};
 
 use crate::args::Args;
-use crate::argument::given_word;
+use crate::argument::given_u32;
 use crate::command::Command;
 use crate::handler::{kind_named, kind_with};
 use crate::values::given_text;
@@ -42,7 +42,7 @@ pub(crate) fn read_handler_kind(args: &mut Args, value: &Value) -> bool
 pub(crate) fn read_try_start(args: &mut Args, value: &Value) -> bool
     ensures { if_fits result args.new ≡ with_argument 0 [] kinds.TryStart args.old (view value.now) }
 {
-    match given_word(value) {
+    match given_u32(value) {
         Some(place) => {
             args.handler.try_start = place;
             true
@@ -56,7 +56,7 @@ pub(crate) fn read_try_start(args: &mut Args, value: &Value) -> bool
 pub(crate) fn read_try_end(args: &mut Args, value: &Value) -> bool
     ensures { if_fits result args.new ≡ with_argument 0 [] kinds.TryEnd args.old (view value.now) }
 {
-    match given_word(value) {
+    match given_u32(value) {
         Some(place) => {
             args.handler.try_end = place;
             true
@@ -70,7 +70,7 @@ pub(crate) fn read_try_end(args: &mut Args, value: &Value) -> bool
 pub(crate) fn read_handler_start(args: &mut Args, value: &Value) -> bool
     ensures { if_fits result args.new ≡ with_argument 0 [] kinds.HandlerStart args.old (view value.now) }
 {
-    match given_word(value) {
+    match given_u32(value) {
         Some(place) => {
             args.handler.start = place;
             true
@@ -84,7 +84,7 @@ pub(crate) fn read_handler_start(args: &mut Args, value: &Value) -> bool
 pub(crate) fn read_handler_end(args: &mut Args, value: &Value) -> bool
     ensures { if_fits result args.new ≡ with_argument 0 [] kinds.HandlerEnd args.old (view value.now) }
 {
-    match given_word(value) {
+    match given_u32(value) {
         Some(place) => {
             args.handler.end = place;
             true
