@@ -66,6 +66,7 @@ pub fn send<O: Outlet>(alloc: Global, out: &mut O, text: &[u8]) -> Status
     ensures text { Sends (O.written out.old) (O.written out.new) text.now result }
     ensures write { result ≡ Status.WriteFault → Rose (O.faults out.old) (O.faults out.new) }
     ensures later { O.faults out.old ≤ O.faults out.new }
+    ensures puts { O.puts out.new ≡ O.puts out.old }
 {
     match out.text(alloc, text) {
         Ok(Sent::Done) => Status::Ok,
@@ -97,7 +98,8 @@ pub fn inspect<F: Folder, O: Outlet>(
     ensures complete { (Rose (F.faults folder.old) (F.faults folder.new) → ⊥)
         → (Rose (O.faults out.old) (O.faults out.new) → ⊥)
         → Completes (F.files folder.old) (asked (map string_bytes words.now)) result }
-    ensures files { F.files folder.new ≡ F.files folder.old }
+    // the folder's files stay, and no file is put
+    ensures stay { (F.files folder.new ≡ F.files folder.old) × (O.puts out.new ≡ O.puts out.old) }
 {
     // for its law: an image has no refusal
     image_is_not_refused();

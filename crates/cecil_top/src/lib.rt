@@ -1,7 +1,9 @@
-//! A run of many actors over many modules. Each actor does its commands in order, in a thread of its own where one can
-//! be started; the modules are shared. What comes of it is a record: the history of each module, and what was answered
-//! to each command with the point of the history at which it is true. The record explains the run by itself, whatever
-//! the schedule was.
+//! What the program does: `tool` takes the words of a command line, a folder and an outlet, and answers a status.
+//!
+//! The words `run JOB` are a run of many actors over many modules. Each actor does its commands in order, in a thread of
+//! its own where one can be started; the modules are shared. What comes of it is a record: the history of each module,
+//! and what was answered to each command with the point of the history at which it is true. The record explains the run
+//! by itself, whatever the schedule was, and the text that is written is the text of that record.
 #![tactic(auto)]
 
 mod actor;

@@ -77,7 +77,7 @@ fn run<R: Threads + Wait + Sync, F: Folder, O: Outlet, G: Decoder + Sync>(
     ensures text { RunWrites (F.files folder.old) name.now (O.written out.old) (O.written out.new) result }
     ensures faults { TellsFaults (F.faults folder.old) (F.faults folder.new) (O.faults out.old) (O.faults out.new)
         result }
-    ensures files { F.files folder.new ≡ F.files folder.old }
+    ensures stay { (F.files folder.new ≡ F.files folder.old) × (O.puts out.new ≡ O.puts out.old) }
 {
     match make_text(rt, alloc, name, folder, gate) {
         Ok(text) => send(alloc, out, text.as_slice()),
@@ -110,7 +110,8 @@ pub fn tool<R: Threads + Wait + Sync, F: Folder, O: Outlet, G: Decoder + Sync>(
     ensures complete { (Rose (F.faults folder.old) (F.faults folder.new) → ⊥)
         → (Rose (O.faults out.old) (O.faults out.new) → ⊥)
         → ToolCompletes (F.files folder.old) (map string_bytes words.now) result }
-    ensures files { F.files folder.new ≡ F.files folder.old }
+    // the folder's files stay, and no file is put
+    ensures stay { (F.files folder.new ≡ F.files folder.old) × (O.puts out.new ≡ O.puts out.old) }
 {
     // for its law: an image has no refusal
     image_is_not_refused();
