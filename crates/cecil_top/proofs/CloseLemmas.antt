@@ -13,22 +13,6 @@ use Rattle.cecil_top.specs.inner.Ends.{AllAreClosed, AllAreSameFrom, AreWithout,
 use Rattle.cecil_top.specs.inner.Passes.{IsThere, Shared, seen_by}
 use Rattle.cecil_top.proofs.PlaceLemmas.{front_item, item_at, other_item, same_at}
 
-pub none_closed : (modules : List Shared) (actors : List Actor) → AllAreClosed modules actors [] 0
-none_closed modules actors = record { as_many = refl; each = λ m l core at is. absurd cc }
-
-pub all_same : (actors : List Actor) → AllAreSameFrom 0 actors actors
-all_same actors = record {
-  as_many = refl;
-  each = λ i a x at is.
-      let same : a ≡ x = same_at actors i a x at is in
-      record {
-        commands = ap (λ (z : Actor). z.commands) (sym same);
-        said = ap (λ (z : Actor). z.said) (sym same);
-        as_many = ap (λ (z : Actor). length z.passes) (sym same);
-        passes = λ m l. ap (λ (z : Actor). slice_get z.passes m) (sym same);
-      };
-}
-
 module _ (n : ℕ) (old now : List Actor) (s : AllAreSameFrom n old now) where
   -- what an actor was
   was : (i : ℕ) (x : Actor) → slice_get now i ≡ Some x → (a : Actor) × (slice_get old i ≡ Some a) × IsSameFrom n a x

@@ -18,44 +18,6 @@ use Rattle.cecil_top.specs.inner.Passes.{Held, Shared}
 use Rattle.cecil_top.proofs.CallerLemmas.{explains_longer}
 use Rattle.cecil_top.proofs.PlaceLemmas.{all_at, at_all, front_item, item_at, other_item, same_at, same_or_not, set_item}
 
-pub none_given : (m : ℕ) (actors : List Actor) → AreGiven m actors [] 0
-none_given m actors = record { as_many = refl; each = λ i a p at is. absurd cc }
-
--- an actor more gave its pass
-pub given_more : (m n : ℕ) (actors : List Actor) (passes : List Held) (a : Actor) (p : Held) → AreGiven m actors passes n → slice_get actors n ≡ Some a
-    → slice_get a.passes m ≡ Some (Some p) → AreGiven m actors (passes ++ p ∷ []) (n + 1)
-given_more m n actors passes a p g at is = record {
-  as_many = (let many = g.as_many in omega (arith, many, length-append passes (p ∷ [])));
-  each = λ i x q there now.
-      dite (dec_le (suc i) (length passes))
-      (λ less. g.each i x q there (sym (front_item passes (p ∷ []) i (omega arith)) ∙ now))
-      (λ past.
-      let last = one_behind passes p q i (omega arith) now in
-      let same = same_at actors n a x at (ap (slice_get actors) (sym (last.1 ∙ g.as_many)) ∙ there) in
-      subst (λ y. slice_get y.passes m ≡ Some (Some q)) same (is ∙ ap (λ y. Some (Some y)) (sym last.0)));
-}
-
-pub none_without : (m : ℕ) (actors : List Actor) → AreWithout m actors actors 0
-none_without m actors = record { as_many = refl; before = λ i a x less at is. absurd (omega arith); behind = λ i l. refl }
-
--- an actor more is without its pass
-pub without_more : (m n : ℕ) (old mid new : List Actor) (a : Actor) → AreWithout m old mid n → slice_get mid n ≡ Some a → new ≡ slice_set mid n (without_pass m a)
-    → AreWithout m old new (n + 1)
-without_more m n old mid new a w at is = record {
-  as_many = ap length is ∙ length-set mid n (without_pass m a) ∙ w.as_many;
-  before = λ i x y less was now. by_place i x y less was now (same_or_not i n);
-  behind = λ i l. ap (λ xs. slice_get xs i) is ∙ other_item mid n i (without_pass m a) (λ e. absurd (omega (arith, e))) ∙ w.behind i (omega arith);
-}
-  where
-    by_place : (i : ℕ) (x y : Actor) → i < n + 1 → slice_get old i ≡ Some x → slice_get new i ≡ Some y → (i ≡ n) ⊎ (i ≢ n) → y ≡ without_pass m x
-    by_place i x y less was now (inl e) =
-        let within = slice_get_within mid n a at in
-        let new_is = same_at new n (without_pass m a) y (ap (λ xs. slice_get xs n) is ∙ set_item mid n (without_pass m a) within) (ap (slice_get new) (sym e) ∙ now) in
-        let old_is = same_at old n a x (sym (w.behind n (omega arith)) ∙ at) (ap (slice_get old) (sym e) ∙ was) in
-        sym new_is ∙ ap (without_pass m) old_is
-    by_place i x y less was now (inr o) =
-        w.before i x y (omega (arith, o, less)) was (sym (other_item mid n i (without_pass m a) o) ∙ ap (λ xs. slice_get xs i) (sym is) ∙ now)
-
 module _ (l : Shared) (m : ℕ) (actors : List Actor) (passes : List Held) (can : CanClose l m actors) (g : AreGiven m actors passes (length actors)) where
   pass_of : (i : ℕ) (a : Actor) (p : Held) → slice_get actors i ≡ Some a → slice_get passes i ≡ Some p → IsPassOf l p × (p.number ≡ i)
   pass_of i a p at is = can.passes i a (Some p) at (g.each i a p at is)

@@ -20,7 +20,7 @@ use Rattle.lazy_core.specs.Slots.{CoreState}
 use Rattle.node_read.specs.Image.{IsImageFile, RefusesImage}
 use Rattle.node_read.specs.declared.image.OpenRefusal.{OpenRefusal}
 use Rattle.cecil_top.specs.Untouched.{AreUntouched}
-use Rattle.cecil_top.specs.ToolFiles.{AreImages, IsFirstUntaken, IsReadFile, IsReadJob, IsRefusedImage, IsTaken, IsUnread, IsUntaken}
+use Rattle.cecil_top.specs.ToolFiles.{AreImages, IsFirstUntaken, IsReadFile, IsReadJob, IsRefusedImage, IsNamedImage, IsUnread, IsUntaken}
 use Rattle.cecil_top.specs.inner.ToolSteps.{AreTakenTo, EndsFile, EndsImage, EndsImages, EndsJob, EndsRun}
 
 -- what a folder found is the content of the file
@@ -86,12 +86,12 @@ images_more files (n ∷ names) (x ∷ bs) name b are is = (are.0, images_more f
 
 -- each of them is taken
 pub images_taken : (files : Option (List NamedFile)) (names bs : List (List ℕ)) → AreImages files names bs
-    → All (IsTaken files) names
-images_taken files [] [] are = All-nil (IsTaken files)
+    → All (IsNamedImage files) names
+images_taken files [] [] are = All-nil (IsNamedImage files)
 images_taken files [] (b ∷ bs) are = absurd are
 images_taken files (n ∷ names) [] are = absurd are
 images_taken files (n ∷ names) (b ∷ bs) are =
-    All-cons (IsTaken files) n names (b, are.0) (images_taken files names bs are.1)
+    All-cons (IsNamedImage files) n names (b, are.0) (images_taken files names bs are.1)
 
 -- one for each name
 pub as_many_images : (files : Option (List NamedFile)) (names bs : List (List ℕ)) → AreImages files names bs

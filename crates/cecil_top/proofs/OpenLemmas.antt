@@ -16,9 +16,6 @@ use Rattle.cecil_top.specs.inner.Opens.{AllAreNew, AreFresh, AreHandedOut, AreOp
 use Rattle.cecil_top.specs.inner.Passes.{Held, Shared}
 use Rattle.cecil_top.proofs.PlaceLemmas.{front_item, item_at, item_mapped, other_item, same_at, same_items, same_or_not, set_item}
 
-pub none_new : (given : List (List Command)) → AllAreNew [] given [] 0
-none_new given = record { as_many = refl; each = λ i cs a at is. absurd cc }
-
 -- an actor more is made
 pub new_more : (given : List (List Command)) (n : ℕ) (actors : List Actor) (a : Actor) (cs : List Command) → AllAreNew [] given actors n
     → slice_get given n ≡ Some cs → IsNew [] n cs a → AllAreNew [] given (actors ++ a ∷ []) (n + 1)
@@ -42,9 +39,6 @@ given_is modules given actors all =
     (λ i x y is at.
     let a = item_mapped (λ (a : Actor). a.given) actors i x is in
     sym a.2 ∙ (all.each i y a.0 at a.1).given)
-
-pub none_handed : (passes : List Held) (actors : List Actor) → AreHandedOut passes actors actors 0
-none_handed passes actors = record { as_many = refl; before = λ i a x p less at now is. absurd (omega arith); behind = λ i l. refl }
 
 -- an actor more has got its pass
 pub handed_more : (passes : List Held) (old mid new : List Actor) (n : ℕ) (a : Actor) (p : Held) → AreHandedOut passes old mid n → slice_get mid n ≡ Some a
@@ -114,9 +108,6 @@ opened_for_all modules l given mid new many h all = record {
           none_said = ap (λ (z : Actor). z.said) now ∙ was.none_said;
           passes = subst (AreFresh (modules ++ l ∷ []) i) (sym (ap (λ (z : Actor). z.passes) now)) (fresh_more modules l i y.0.passes was.passes);
         }
-
-pub none_opened : (cores : List CoreState) (n : ℕ) → AreOpened cores n [] 0
-none_opened cores n = record { as_many = refl; each = λ m core l at is. absurd cc }
 
 pub opened_more : (cores : List CoreState) (n m : ℕ) (modules : List Shared) (core : CoreState) (l : Shared) → AreOpened cores n modules m
     → slice_get cores m ≡ Some core → l.base ≡ core.bytes → l.callers ≡ n → AreOpened cores n (modules ++ l ∷ []) (m + 1)

@@ -144,16 +144,3 @@ module _ (cores : List CoreState) (given : List (List Command)) (runnable : AreR
         → OnOk r (AllAreSameFrom (length modules) a2 a3) → IfOk r (λ ends. Explains (bytes_of cores) given (record { cores = ends; actors = map record_of a3 }))
     run_ends a3 (Ok ends) closed same = run_explains a3 ends closed same
     run_ends a3 (Err e) closed same = tt
-
--- a run without actors
-pub nobody_explains : (cores : List CoreState) → AreUntouched cores → Explains (bytes_of cores) [] (record { cores = cores; actors = [] })
-nobody_explains cores untouched = record {
-  bytes = refl;
-  actors = refl;
-  legal = at_all (λ (core : CoreState). Legal core.bytes core.history) cores
-      (λ m core is. subst (Legal core.bytes) (sym (all_at (λ (c : CoreState). c.history ≡ []) cores untouched m core is)) tt);
-  callers = at_all (λ (core : CoreState). All (λ e. entry_caller e < 0) core.history) cores
-      (λ m core is. subst (All (λ e. entry_caller e < 0)) (sym (all_at (λ (c : CoreState). c.history ≡ []) cores untouched m core is)) (λ k d less. absurd (omega (arith, less))));
-  done = λ i cs r at is. absurd cc;
-  explained = λ m i core r at is. absurd cc;
-}

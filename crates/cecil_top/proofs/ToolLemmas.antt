@@ -24,7 +24,7 @@ use Rattle.node_read.specs.declared.image.OpenRefusal.{OpenRefusal}
 use Rattle.node_read.specs.declared.image.OpenRefusal.TheVariants as opens
 use Rattle.cecil_top.specs.Explains.{Explains}
 use Rattle.cecil_top.specs.Tool.{IsFirstMissed, IsRunOf, IsWholeJob, RunAnswers, RunCompletes, RunWrites}
-use Rattle.cecil_top.specs.ToolFiles.{AreImages, IsFirstUntaken, IsReadFile, IsReadJob, IsRefusedJob, IsTaken, IsUnread, IsUntaken}
+use Rattle.cecil_top.specs.ToolFiles.{AreImages, IsFirstUntaken, IsReadFile, IsReadJob, IsRefusedJob, IsNamedImage, IsUnread, IsUntaken}
 use Rattle.cecil_top.specs.inner.ToolSteps.{EndsRun, IsTextOf}
 use Rattle.cecil_top.proofs.FileLemmas.{as_many_images, images_taken}
 use Rattle.cecil_top.proofs.PlaceLemmas.{all_at}
@@ -155,7 +155,7 @@ not_both n short long = grind (arith, nat_tests)
 
 -- a told image is not refused
 taken_untaken : ImageIsNotRefused → (files : List NamedFile) (name : List ℕ) (cause : FileCause)
-    → IsTaken (Some files) name → IsUntaken (Some files) name cause → ⊥
+    → IsNamedImage (Some files) name → IsUntaken (Some files) name cause → ⊥
 taken_untaken law files name Missing is bad = is_there files name is.0 is.1.content bad
 taken_untaken law files name TooLong is bad =
     let same : bad.0 ≡ is.0 = one_content files name bad.0 is.0 bad.1 is.1.content in
@@ -167,9 +167,9 @@ taken_untaken law files name (Refused refusal) is bad =
 
 -- none of the files of a whole job is missed
 none_untaken : ImageIsNotRefused → (files : List NamedFile) (names : List (List ℕ)) (other : List ℕ) (cause : FileCause)
-    → All (IsTaken (Some files)) names → IsFirstUntaken (Some files) names other cause → ⊥
+    → All (IsNamedImage (Some files)) names → IsFirstUntaken (Some files) names other cause → ⊥
 none_untaken law files names other cause all first =
-    taken_untaken law files other cause (all_at (IsTaken (Some files)) names all first.place other first.named)
+    taken_untaken law files other cause (all_at (IsNamedImage (Some files)) names all first.place other first.named)
     first.untaken
 
 none_missed : ImageIsNotRefused → (files : List NamedFile) (name other : List ℕ) (cause : FileCause)
@@ -182,7 +182,7 @@ none_missed law files name other cause whole (inr missed) =
     let same : read.text ≡ again.text = one_content files name read.text again.text read.read.content again.read.content in
     no_other again.text whole.0 missed.0 (subst (λ t. IsJobOf t (Ok whole.0)) same read.denotes) again.denotes
     (λ is. none_untaken law files missed.0.modules other cause
-    (subst (λ job. All (IsTaken (Some files)) job.modules) is whole.2) missed.2)
+    (subst (λ job. All (IsNamedImage (Some files)) job.modules) is whole.2) missed.2)
 
 -- a run of a whole job ends with Ok or wants memory, where no count of faults rose
 completes_told : ImageIsNotRefused → (files : List NamedFile) (name : List ℕ) (read read_now write write_now : ℕ)

@@ -21,14 +21,14 @@ abbrev pub point_of : Said → ℕ
 point_of (saids.Query a) = a.at
 point_of (saids.Edit x) = x.at
 
-abbrev pub row_made : Outcome → Option Token
-row_made (Done made) = made
-row_made (Refused r) = None
+abbrev pub outcome_row : Outcome → Option Token
+outcome_row (Done made) = made
+outcome_row (Refused r) = None
 
 -- the token of the row that a command made, if it made one
-abbrev pub token_made : Said → Option Token
-token_made (saids.Query a) = None
-token_made (saids.Edit x) = row_made x.outcome
+abbrev pub said_token : Said → Option Token
+said_token (saids.Query a) = None
+said_token (saids.Edit x) = outcome_row x.outcome
 
 abbrev pub if_done : Edit → Outcome → List Edit
 if_done e (Done made) = e ∷ []

@@ -1,11 +1,11 @@
 -- What the record of a run explains: every answer to every actor, by one history of each module.
 use Rattle.std.specs.Prelude.{◌≡◌, ℕ, ◌<◌, List, All, length, map, slice_get, take, Some}
-use Rattle.job_text.specs.References.{replaced}
+use Rattle.job_text.specs.References.{replaced_command}
 use Rattle.job_text.specs.declared.command.Command.{Command}
 use Rattle.lazy_core.specs.History.{entry_caller}
 use Rattle.lazy_core.specs.Legal.{Legal}
 use Rattle.lazy_core.specs.Slots.{CoreState}
-use Rattle.cecil_top.specs.Commands.{token_made}
+use Rattle.cecil_top.specs.Commands.{said_token}
 use Rattle.cecil_top.specs.Explained.{ExplainsCaller}
 use Rattle.cecil_top.specs.declared.record.ActorRecord.{ActorRecord}
 use Rattle.cecil_top.specs.declared.record.RunRecord.{RunRecord}
@@ -18,7 +18,7 @@ pub record AreDone (given done : List Command) (said : List Said) : Type 0 where
   pub answered : length said ≡ length given
   pub replaced :
       (n : ℕ) (asked command : Command) → slice_get given n ≡ Some asked → slice_get done n ≡ Some command
-      → command ≡ replaced (map token_made (take n said)) asked
+      → command ≡ replaced_command (map said_token (take n said)) asked
 
 -- The record of a run of these commands, a list for each actor, over these images. Modules and actors go by their
 -- numbers.

@@ -9,7 +9,7 @@ use Rattle.cil_outside.specs.declared.files.NamedFile.{NamedFile}
 use Rattle.job_text.specs.Parts.{Job}
 use Rattle.cecil_top.specs.Explains.{Explains}
 use Rattle.cecil_top.specs.RunText.{run_text}
-use Rattle.cecil_top.specs.ToolFiles.{AreImages, IsFirstUntaken, IsReadJob, IsRefusedJob, IsTaken, IsUnread}
+use Rattle.cecil_top.specs.ToolFiles.{AreImages, IsFirstUntaken, IsReadJob, IsRefusedJob, IsNamedImage, IsUnread}
 use Rattle.cecil_top.specs.ToolWords.{job_asked}
 use Rattle.cecil_top.specs.declared.record.RunRecord.{RunRecord}
 
@@ -30,7 +30,7 @@ pub record IsRunOf (files : Option (List NamedFile)) (name text : List ℕ) : Ty
 
 -- the job file denotes a job, of which each module is an image within the limit
 abbrev pub IsWholeJob : Option (List NamedFile) → List ℕ → Type 0
-IsWholeJob files name = (job : Job) × IsReadJob files name job × All (IsTaken files) job.modules
+IsWholeJob files name = (job : Job) × IsReadJob files name job × All (IsNamedImage files) job.modules
 
 -- this is the first file, in the order of reading, that is not taken: the job file, or an image of its job
 abbrev pub IsFirstMissed : Option (List NamedFile) → List ℕ → List ℕ → FileCause → Type 0

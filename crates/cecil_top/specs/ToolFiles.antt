@@ -38,8 +38,8 @@ pub record IsRefusedJob (files : Option (List NamedFile)) (name : List ℕ) (ref
   pub refused : IsJobOf text (Err (fails.Refused refusal))
 
 -- the file of a name is an image within the limit
-abbrev pub IsTaken : Option (List NamedFile) → List ℕ → Type 0
-IsTaken files name = (b : List ℕ) × IsReadImage files name b
+abbrev pub IsNamedImage : Option (List NamedFile) → List ℕ → Type 0
+IsNamedImage files name = (b : List ℕ) × IsReadImage files name b
 
 -- or it is none, and this is its refusal
 pub record IsRefusedImage (files : Option (List NamedFile)) (name : List ℕ) (refusal : OpenRefusal) : Type 0 where
@@ -59,7 +59,7 @@ pub record IsFirstUntaken (files : Option (List NamedFile)) (names : List (List 
     Type 0 where
   pub place : ℕ
   pub named : slice_get names place ≡ Some name
-  pub before : All (IsTaken files) (take place names)
+  pub before : All (IsNamedImage files) (take place names)
   pub untaken : IsUntaken files name cause
 
 -- the files of these names are images, with these bytes

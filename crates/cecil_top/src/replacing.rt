@@ -1,6 +1,6 @@
 //! Commands in which no back reference is left.
 ghost use Rattle.std.specs.Prelude.{◌≡◌, ◌∷◌, ◌++◌, [], OnOk};
-ghost use Rattle.job_text.specs.References.{replaced};
+ghost use Rattle.job_text.specs.References.{replaced_command};
 
 use cil_base::{List, NoMemory, Token};
 use job_text::{Command, replace_references};
@@ -14,7 +14,7 @@ pub(crate) fn push_replaced(
     given: &Command,
     made: &[Option<Token>],
 ) -> Result<(), NoMemory>
-    ensures { OnOk result (commands.new ≡ commands.old ++ replaced made.now given.now ∷ []) }
+    ensures { OnOk result (commands.new ≡ commands.old ++ replaced_command made.now given.now ∷ []) }
 {
     match replace_references(alloc, made, given) {
         Ok(command) => commands.push(command),

@@ -1,5 +1,5 @@
 ghost use Rattle.std.specs.Prelude.{◌≡◌, ℕ, Some, slice_get, length, ◌<◌, OnOk};
-ghost use Rattle.cecil_top.specs.Commands.{row_made, token_made};
+ghost use Rattle.cecil_top.specs.Commands.{outcome_row, said_token};
 ghost use Rattle.cecil_top.specs.declared.said.Said.{Said};
 ghost use Rattle.cecil_top.specs.inner.Passes.{IsToldAnswer, IsToldEdit};
 
@@ -18,7 +18,7 @@ pub enum Said {
 
 /// The row that an edit made.
 fn row_made(outcome: &Outcome) -> Option<Token>
-    ensures { result ≡ row_made outcome.now }
+    ensures { result ≡ outcome_row outcome.now }
 {
     match outcome {
         Outcome::Done(made) => *made,
@@ -29,7 +29,7 @@ fn row_made(outcome: &Outcome) -> Option<Token>
 impl Said {
     /// The token of the row that the command made, if it made one.
     pub fn token_made(&self) -> Option<Token>
-        ensures { result ≡ token_made self.now }
+        ensures { result ≡ said_token self.now }
     {
         match self {
             Said::Query(_) => None,
@@ -41,7 +41,7 @@ impl Said {
 /// The token of the row that the command of this number made, if it made one.
 pub(crate) fn token_made_at(said: &[Said], place: u32) -> Option<Token>
     requires { place < length said.now }
-    ensures { (a : Said) → slice_get said.now place ≡ Some a → result ≡ token_made a }
+    ensures { (a : Said) → slice_get said.now place ≡ Some a → result ≡ said_token a }
 {
     said[place as usize].token_made()
 }

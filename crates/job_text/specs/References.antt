@@ -84,8 +84,8 @@ replaced_edit made (edits.AddHandler t handler) =
 replaced_edit made (edits.RemoveHandler t at) = edits.RemoveHandler (replaced_token made t) at
 
 -- a command in which no back reference is left
-unfoldable pub replaced : List (Option Token) → Command → Command
-replaced made (commands.Query m query) = commands.Query m (replaced_query made query)
-replaced made (commands.Edit m edit) = commands.Edit m (replaced_edit made edit)
-replaced made (commands.Resolve m t) = commands.Resolve m (replaced_token made t)
-replaced made (commands.Attribute m t) = commands.Attribute m (replaced_token made t)
+unfoldable pub replaced_command : List (Option Token) → Command → Command
+replaced_command made (commands.Query m query) = commands.Query m (replaced_query made query)
+replaced_command made (commands.Edit m edit) = commands.Edit m (replaced_edit made edit)
+replaced_command made (commands.Resolve m t) = commands.Resolve m (replaced_token made t)
+replaced_command made (commands.Attribute m t) = commands.Attribute m (replaced_token made t)

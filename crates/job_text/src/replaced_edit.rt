@@ -1,7 +1,7 @@
 //! Changes and commands in which each back reference is replaced by the token that it stands for.
 
 ghost use Rattle.std.specs.Prelude.{◌≡◌, IfOk, map};
-ghost use Rattle.job_text.specs.References.{replaced, replaced_cell, replaced_edit, replaced_handler, replaced_instr, replaced_query, replaced_token};
+ghost use Rattle.job_text.specs.References.{replaced_command, replaced_cell, replaced_edit, replaced_handler, replaced_instr, replaced_query, replaced_token};
 ghost use Rattle.job_text.specs.declared.command.Command.TheVariants as commands;
 ghost use Rattle.node_model.specs.declared.edit.Edit.TheVariants as edits;
 
@@ -261,13 +261,13 @@ fn edit_command(
 
 /// A command in which no back reference is left, of its own. `made` has, of each command of the actor up to now, the
 /// token of the row that it made, if it made one.
-#[tactic(auto, unfolding(crate::specs::References::replaced))]
+#[tactic(auto, unfolding(crate::specs::References::replaced_command))]
 pub fn replace_references(
     alloc: Global,
     made: &[Option<Token>],
     command: &Command,
 ) -> Result<Command, NoMemory>
-    ensures { IfOk result (λ own. own ≡ replaced made.now command.now) }
+    ensures { IfOk result (λ own. own ≡ replaced_command made.now command.now) }
 {
     match command {
         Command::Query { module, query } => query_command(made, *module, query),

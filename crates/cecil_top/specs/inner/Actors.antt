@@ -1,9 +1,9 @@
 -- An actor before and after its commands. No public contract cites these words.
 use Rattle.std.specs.Prelude.{◌≡◌, ℕ, ◌≤◌, List, [], All, false, length, map, slice_get, take, Option, Some}
 use Rattle.cil_base.specs.Token.{Token}
-use Rattle.job_text.specs.References.{replaced}
+use Rattle.job_text.specs.References.{replaced_command}
 use Rattle.job_text.specs.declared.command.Command.{Command}
-use Rattle.cecil_top.specs.Commands.{token_made}
+use Rattle.cecil_top.specs.Commands.{said_token}
 use Rattle.cecil_top.specs.Explains.{AreDone}
 use Rattle.job_text.specs.Runnable.{CanRun}
 use Rattle.cecil_top.specs.declared.actor.Actor.{Actor}
@@ -17,8 +17,8 @@ pub record AreDoneTo (given done : List Command) (said : List Said) (made : List
   pub answered : length said ≡ n
   pub replaced :
       (c : ℕ) (asked command : Command) → slice_get given c ≡ Some asked → slice_get done c ≡ Some command
-      → command ≡ replaced (map token_made (take c said)) asked
-  pub made_is : made ≡ map token_made said
+      → command ≡ replaced_command (map said_token (take c said)) asked
+  pub made_is : made ≡ map said_token said
 
 abbrev pub FitModules : List Shared → List Command → Type 0
 FitModules modules cs = (length cs ≤ 4096) × All (CanRun (length modules)) cs

@@ -1,5 +1,5 @@
 use Rattle.std.proofs.Common.{◌≡◌, ◌∙◌, ◌++◌, ◌∷◌, [], ◌<◌, sym, ap, subst, rules, length, length-append, slice_get, arith}
-use Rattle.job_text.specs.References.{replaced}
+use Rattle.job_text.specs.References.{replaced_command}
 use Rattle.job_text.specs.Runnable.{CanRun}
 use Rattle.cecil_top.proofs.ActorLemmas.{next_done, next_is, replaced_runs}
 use Rattle.cecil_top.proofs.PlaceLemmas.{all_at, read_at}
@@ -19,9 +19,9 @@ do_command-requires-clause-runs g c =
     let at = read_at given n asked less c.index-given-place.is in
     let pushed = c.in_ok-push_replaced.ensures in
     let now = c.as_slice-in-loop-place.ensures ∙ pushed in
-    let within = subst (λ l. n < length l) (sym now) (omega (arith, many, length-append cs (replaced made asked ∷ []))) in
+    let within = subst (λ l. n < length l) (sym now) (omega (arith, many, length-append cs (replaced_command made asked ∷ []))) in
     let there = ap (λ l. slice_get l n) (sym c.as_slice-in-loop-place.ensures) ∙ read_at c.as_slice-in-loop-place.result.now n x within c.index-as_slice-place.is in
-    subst (CanRun modules) (next_is cs c.push_replaced.new.commands n (replaced made asked) x many pushed there)
+    subst (CanRun modules) (next_is cs c.push_replaced.new.commands n (replaced_command made asked) x many pushed there)
     (replaced_runs modules made asked (all_at (CanRun modules) given c.requires.fit.1 n asked at))
 
 pub loop-place-preserved : goal.loop-place-preserved
@@ -34,9 +34,9 @@ loop-place-preserved g c =
     let many = c.loop-place.invariant.1.as_many in
     let less : n < length given = search rules in
     let at = read_at given n asked less c.index-given-place.is in
-    let pushed = subst (λ l. c.push_replaced.new.commands ≡ cs ++ replaced l asked ∷ []) c.as_slice.ensures c.in_ok-push_replaced.ensures in
+    let pushed = subst (λ l. c.push_replaced.new.commands ≡ cs ++ replaced_command l asked ∷ []) c.as_slice.ensures c.in_ok-push_replaced.ensures in
     let now = c.as_slice-in-loop-place.ensures ∙ pushed in
-    let within = subst (λ l. n < length l) (sym now) (omega (arith, many, length-append cs (replaced c.loop-place.made asked ∷ []))) in
+    let within = subst (λ l. n < length l) (sym now) (omega (arith, many, length-append cs (replaced_command c.loop-place.made asked ∷ []))) in
     let there = ap (λ l. slice_get l n) (sym c.as_slice-in-loop-place.ensures) ∙ read_at c.as_slice-in-loop-place.result.now n x within c.index-as_slice-place.is in
     let done = next_done c.args.modules.now c.args.actor given cs c.loop-place.said c.loop-place.made n c.loop-place.passes c.do_command.new.passes
     c.loop-place.invariant.0 c.loop-place.invariant.1 c.loop-place.invariant.2 asked x c.push_replaced.new.commands c.do_command.new.said c.push.new.self c.token_made_at.result
