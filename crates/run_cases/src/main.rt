@@ -12,6 +12,7 @@
 //! | `write CALL` | the write of this number fails |
 //! | `sound` | a folder and an outlet of which no call fails |
 //! | `hold ACTOR` | this one of actors 0 and 1 is held where its first command needs a key, until the other's was answered |
+//! | `late ACTOR` | the same, where the text has one form alone, which is printed |
 //! | `meet` | actors 0 and 1 wait for each other while they decode |
 //!
 //! With `hold` and `meet` what the gate tells of the run is printed in place of the text.

@@ -1,4 +1,4 @@
-use crate::gates::{GateKind, hold, meet};
+use crate::gates::{GateKind, hold, late, meet};
 use crate::setting::Setting;
 use cecil_top::{Status, tool, tool_sound};
 use cil_base::NoMemory;
@@ -80,6 +80,7 @@ pub fn outcome_of<R: Threads + Wait + Sync>(
     match setting.gate {
         GateKind::Open => over_tables(rt, alloc, setting, &OpenGate),
         GateKind::Hold(actor) => hold(rt, alloc, actor, setting),
+        GateKind::Late(actor) => late(rt, alloc, actor, setting),
         GateKind::Meet => meet(rt, alloc, setting),
     }
 }

@@ -98,6 +98,7 @@ fn change<R: Files>(
         Some("write") => setting.failing_writes.push(number(first))?,
         Some("sound") => setting.sound = true,
         Some("hold") => setting.gate = GateKind::Hold(number(first).min(1) as u32),
+        Some("late") => setting.gate = GateKind::Late(number(first).min(1) as u32),
         Some("meet") => setting.gate = GateKind::Meet,
         _ => {}
     }
