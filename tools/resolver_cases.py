@@ -699,7 +699,7 @@ def hops():
         case('resolve 0 01%06x' % (count + 1), [m])
         m = Module()
         for k in range(1, count):
-            m.sig('1b%06x' % k, '12' + ('%02x' % ((k + 1) << 2 | 2) if k < 31 else '%04x' % (0x8000 | (k + 1) << 2 | 2)))
+            m.sig('1b%06x' % k, '12' + spec_token(k + 1))
         case('resolve 0 1b000001', [m.sig('1b%06x' % count, '1208')])
 
 
@@ -810,8 +810,38 @@ def named_enums():
     case('attribute 0 0c000001', [own, lib])
 
 
+def spec_token(rid):
+    """A TypeSpec in a signature, after the byte of a class or a value type (II.23.2.8)."""
+    n = rid << 2 | 2
+    return '%02x' % n if n < 0x80 else '%04x' % (0x8000 | n)
+
+
+def hops_of_names():
+    """The steps of each enum of an attribute are counted from its own first one."""
+    for first, second in ((60, 60), (99, 99), (60, 100), (100, 60)):
+        m = Module().attribute('0c000001', '06000001', '0100' + '01000000' + '02000000' + '0000')
+        m.sig('06000001', '20020111' + spec_token(1) + '11' + spec_token(first + 1))
+        m.name('1b000001', 'N.A').name('1b%06x' % (first + 1), 'N.B').enum('02000001', 'E', 'N')
+        for rid in range(1, first + second + 1):
+            last = rid in (first, first + second)
+            m.sig('1b%06x' % rid, '1204' if last else '12' + spec_token(rid + 1))
+        case('attribute 0 0c000001', [m])
+
+
+def sorts_of_parameters():
+    """All numbers, and an enum that has the name of a class among the parameters."""
+    m = Module().attribute('0c000001', '06000001', '0100' + '01' + '0200' + '03' + '04' + '0500' + '0600' + '07000000' + '08000000'
+                           + '0900000000000000' + '0a00000000000000' + '0000803f' + '000000000000f03f' + '0000')
+    case('attribute 0 0c000001', [m.sig('06000001', '200c01' + '02030405060708090a0b0c0d')])
+    m = Module().attribute('0c000001', '06000001', '0100' + 'ff' + '0100' + '5355' + text('System.Type') + text('f') + '07000000')
+    m.sig('06000001', '2001011205').name('01000001', 'System.Type').type_ref('01000001', '00000001', 'Type', 'System')
+    case('attribute 0 0c000001', [m])
+    case('attribute 0 0c000001', [m.enum('02000002', 'Type', 'System')])
+
+
 def main():
-    for part in (each_end, type_refs, forwards, nested, specs, members, hops, other_forms, values, enums, named_enums):
+    for part in (each_end, type_refs, forwards, nested, specs, members, hops, other_forms, values, enums, named_enums,
+                 hops_of_names, sorts_of_parameters):
         part()
     with open('crates/resolver_cases/stdin', 'w') as out:
         out.writelines(line + '\n' for line, _ in CASES)

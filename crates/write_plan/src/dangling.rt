@@ -2,7 +2,7 @@
 
 ghost use Rattle.std.specs.Prelude.{◌≡◌};
 ghost use Rattle.std.specs.List.{list_any};
-ghost use Rattle.std.specs.Option.{option_copied, option_map};
+ghost use Rattle.std.specs.Option.{option_copied};
 ghost use Rattle.node_model.specs.EditRefusals.{first_made};
 ghost use Rattle.write_plan.specs.Refusals.{Refuses, dangling_at, is_impure, is_impure_image, not_pure};
 ghost use Rattle.write_plan.specs.inner.Taken.{IsMet, value_kept};
@@ -91,9 +91,8 @@ fn refuse_dangling_among(
     ensures { Refuses (first_made (λ k. dangling_at met.now.all k (value_kept kept.now k)) keys.now) result }
 {
     for key in keys {
-        match refuse_dangling_at(alloc, kept, met, key) {
-            Ok(_) => {}
-            Err(refusal) => return Err(refusal),
+        if let Err(refusal) = refuse_dangling_at(alloc, kept, met, key) {
+            return Err(refusal);
         }
     }
     Ok(())

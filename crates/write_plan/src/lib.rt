@@ -3,6 +3,7 @@
 #![tactic(auto)]
 
 mod dangling;
+mod held;
 mod kept;
 mod kept_rows;
 mod laws;
@@ -15,7 +16,9 @@ mod refusal;
 mod refused;
 mod renamed;
 mod row_cells;
+mod sizes;
 mod sorted;
+mod taking;
 mod unfit;
 mod walk;
 mod writing;

@@ -9,12 +9,12 @@ ghost use Rattle.write_plan.specs.declared.refusal.WriteRefusal.TheVariants.{Twi
 ghost use Rattle.write_plan.specs.inner.Taken.{IsMet, value_kept, walked_so};
 
 use crate::dangling::{refuse_dangling, refuse_impure};
+use crate::held::list_members;
 use crate::kept::Kept;
 use crate::kept_rows::KeptRows;
 use crate::met::MetRows;
 use crate::refusal::WriteRefusal;
 use crate::unfit::refuse_unfit;
-use crate::walk::list_members;
 use cil_base::MAX_RID;
 use md_schema::owner;
 use node_model::Key;

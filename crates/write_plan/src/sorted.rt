@@ -1,7 +1,7 @@
 //! The order in which the rows of a table are written: by the number in the link column where the table is sorted
 //! (ECMA-335 II.22).
 
-ghost use Rattle.std.specs.Prelude.{◌≡◌, ◌<◌, ℕ, map, IfOk, IfSome, OnOk};
+ghost use Rattle.std.specs.Prelude.{◌≡◌, ◌<◌, map, IfOk, IfSome, OnOk};
 ghost use Rattle.std.specs.List.{position};
 ghost use Rattle.std.specs.Option.{option_copied, option_map};
 ghost use Rattle.md_schema.specs.CodedKind.{tables_of};
@@ -13,10 +13,10 @@ ghost use Rattle.write_plan.specs.Written.{token_renumbered, sort_link, sorted_b
 ghost use Rattle.write_plan.specs.declared.sorted.LinkedRow.{LinkedRow};
 ghost use Rattle.write_plan.specs.inner.Taken.{value_kept};
 
+use crate::held::row_held;
 use crate::kept::Kept;
 use crate::numbered::NumberedRows;
 use crate::row_cells::token_named;
-use crate::unfit::row_held;
 use cil_base::{List, NoMemory, Token};
 use md_schema::{
     CodedKind, Column, ColumnKind, Holder, Link, column_at, link_column, table, table_holder,

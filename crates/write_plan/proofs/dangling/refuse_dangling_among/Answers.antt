@@ -20,4 +20,4 @@ pub loop-key-preserved : goal.loop-key-preserved
 loop-key-preserved c =
     let at : Key → Option WriteRefusal = λ k. dangling_at c.args.met.now.all k (value_kept c.args.kept.now k) in
     scan_next (first_made at) at (λ x xs. refl) c.args.keys.now c.loop-key.key-index c.key-item.result (search rules) c.key-item.is c.loop-key.invariant
-    c.in-Ok.ensures
+    c.in_default.ensures

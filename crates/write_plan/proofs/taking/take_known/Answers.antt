@@ -3,7 +3,7 @@ use Rattle.write_plan.specs.Seen.{seen_in}
 use Rattle.write_plan.specs.inner.Taken.{Takes}
 use Rattle.write_plan.proofs.KeptLemmas.{TakesOk, takes_none}
 use Rattle.write_plan.proofs.WalkLemmas.{known_one, unknown_one}
-use Rattle.write_plan.proofs.walk.take_known.Goals as goal
+use Rattle.write_plan.proofs.taking.take_known.Goals as goal
 
 pub returns-then-has_kind : goal.returns-then-has_kind
 returns-then-has_kind g c =

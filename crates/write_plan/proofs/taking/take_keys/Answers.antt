@@ -7,7 +7,7 @@ use Rattle.write_plan.specs.Refusals.{Refused, first_fault}
 use Rattle.write_plan.specs.declared.refusal.WriteRefusal.TheVariants.{Reached}
 use Rattle.write_plan.proofs.KeptLemmas.{TakesOk, stopped_on, takes_more, takes_none, takes_then}
 use Rattle.write_plan.proofs.WalkLemmas.{known_all, known_next}
-use Rattle.write_plan.proofs.walk.take_keys.Goals as goal
+use Rattle.write_plan.proofs.taking.take_keys.Goals as goal
 
 pub loop-key-init : goal.loop-key-init
 loop-key-init g c = takes_none _ c.args.kept.now c.requires

@@ -4,7 +4,7 @@ use Rattle.write_plan.specs.Seen.{is_seen, seen_in}
 use Rattle.write_plan.specs.inner.Taken.{Takes, met_rows}
 use Rattle.write_plan.proofs.KeptLemmas.{TakesOk, takes_none, takes_nothing}
 use Rattle.write_plan.proofs.WalkLemmas.{row_seen, row_unseen, seen_keys, unseen_keys}
-use Rattle.write_plan.proofs.walk.take_seen.Goals as goal
+use Rattle.write_plan.proofs.taking.take_seen.Goals as goal
 
 pub returns-then-not-is_seen-clause-met : goal.returns-then-not-is_seen-clause-met
 returns-then-not-is_seen-clause-met g c =

@@ -1,7 +1,7 @@
 use Rattle.std.proofs.Common.{sym}
 use Rattle.write_plan.specs.Seen.{seen_in}
 use Rattle.write_plan.proofs.KeptLemmas.{takes_one}
-use Rattle.write_plan.proofs.walk.take_key.Goals as goal
+use Rattle.write_plan.proofs.taking.take_key.Goals as goal
 
 pub returns-in-Ok : goal.returns-in-Ok
 returns-in-Ok g c =

@@ -6,7 +6,7 @@ use Rattle.write_plan.specs.GraphWalk.{own_keys}
 use Rattle.write_plan.specs.Seen.{seen_in}
 use Rattle.write_plan.proofs.KeptLemmas.{stopped_on, takes_more, takes_one, takes_then}
 use Rattle.write_plan.proofs.WalkLemmas.{always_on_ok}
-use Rattle.write_plan.proofs.walk.take_new.Goals as goal
+use Rattle.write_plan.proofs.taking.take_new.Goals as goal
 
 pub returns-in_err-keep-clause-keys : goal.returns-in_err-keep-clause-keys
 returns-in_err-keep-clause-keys g c =
