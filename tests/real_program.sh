@@ -25,6 +25,8 @@ expect() {
 
 "$here/cecil" >/dev/null 2>&1 # builds it, where it is missing
 cp "$here/crates/cecil/data/small.dll" "$folder/small.dll"
+cp "$here/examples/edit.json" "$folder/edit.json"
+printf '{"modules":["none.dll"],"actors":[],"write":[]}' >"$folder/none.json"
 mkdir "$folder/folder"
 truncate -s $((2 ** 26 + 1)) "$folder/long.dll"
 truncate -s $((2 ** 26)) "$folder/whole.dll"
@@ -43,6 +45,13 @@ expect 'a file past the limit' 4 'cecil: file long.dll: too long' dump long.dll
 expect 'a file of the limit that is no image' 4 'cecil: file whole.dll: refused 2 NoDos' dump whole.dll
 expect 'a folder in place of a file' 6 'cecil: read fault' dump folder
 output=/dev/full expect 'a full device' 7 'cecil: write fault' dump small.dll
+expect 'a job' 0 '' run edit.json
+expect 'a job that is not there' 4 'cecil: file no.json: missing' run no.json
+expect 'a job that is an image' 3 'cecil: job: not JSON' run small.dll
+expect 'a job past the limit' 4 'cecil: file long.dll: too long' run long.dll
+expect 'a job of an image that is not there' 4 'cecil: file none.dll: missing' run none.json
+expect 'a job in a folder' 6 'cecil: read fault' run folder
+output=/dev/full expect 'a job on a full device' 7 'cecil: write fault' run edit.json
 if [ "$(id -u)" = 0 ]; then
     echo 'a file that may not be read: left out, since root may read it'
 else
