@@ -84,10 +84,16 @@ fn refusal_text(alloc: Global, refusal: JobRefusal) -> Result<Bytes, NoMemory> {
     }
 }
 
+/// What is printed of a copy of a job.
+fn copied_text(alloc: Global, job: &Job) -> Result<Bytes, NoMemory> {
+    let copy = job.copy(alloc)?;
+    job_text(alloc, &copy)
+}
+
 /// What is printed of a job's text.
 fn text_answer(alloc: Global, text: &[u8]) -> Result<Bytes, NoMemory> {
     match job_of(alloc, text) {
-        Ok(job) => job_text(alloc, &job),
+        Ok(job) => copied_text(alloc, &job),
         Err(JobFail::Refused(refusal)) => refusal_text(alloc, refusal),
         Err(JobFail::NoMemory) => Err(NoMemory),
     }

@@ -16,6 +16,12 @@ fn begun(alloc: Global, part: &str) -> Ask {
     }
 }
 
+/// What is printed of a copy of a question or an end.
+fn copied_text(alloc: Global, next: &Next) -> Result<Bytes, NoMemory> {
+    let copy = next.copy(alloc)?;
+    next_text(alloc, &copy)
+}
+
 /// Gives one more reply, if one is asked for.
 fn give(alloc: Global, ask: &mut Ask, part: &str, out: &mut Bytes) -> Result<(), NoMemory> {
     let next = ask.next()?;
@@ -36,7 +42,7 @@ pub fn answer(alloc: Global, line: &str) -> Result<Bytes, NoMemory> {
     for part in parts {
         give(alloc, &mut ask, part, &mut out)?;
     }
-    let text = next_text(alloc, &ask.next()?)?;
+    let text = copied_text(alloc, &ask.next()?)?;
     out.extend(text.as_slice())?;
     Ok(out)
 }
