@@ -1,0 +1,3 @@
+pub mod HasPart
+pub mod PartNumbers
+pub mod PartLemmas

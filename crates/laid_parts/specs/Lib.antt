@@ -1,0 +1,2 @@
+pub mod LaidParts
+pub mod Laws

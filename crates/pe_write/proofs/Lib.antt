@@ -1,0 +1,10 @@
+pub mod TestLemmas
+pub mod HeaderNumbers
+pub mod ImagePlaces
+pub mod StreamHeaders
+pub mod StreamNames
+pub mod MetadataLemmas
+pub mod OpenLemmas
+pub mod FactsLemmas
+pub mod WriteLemmas
+pub mod WorkedFacts
