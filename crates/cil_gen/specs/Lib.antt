@@ -1,0 +1,3 @@
+pub mod SmallImage
+pub mod GenEdits
+pub mod Done
