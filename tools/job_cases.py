@@ -96,6 +96,8 @@ COMMANDS = [
     ("iltry", [("token", '"06000001"'), ("handler kind", '"finally"'), ("at", "0"), ("at", "1"), ("at", "2"), ("at", "3"), ("null", "null")],
      "iltry 06000001 finally/0/1/2/3"),
     ("iluntry", [("token", '"06000001"'), ("at", "0")], "iluntry 06000001 0"),
+    ("resolve", [("token", '"01000001"')], "resolve 01000001"),
+    ("attribute", [("token", '"0c000001"')], "attribute 0c000001"),
 ]
 WRONG["cells"] = ["null", '{"hex":""}', '["x"]', '"[]"']
 WRONG["sig or null"] = [w for w in WRONG["sig"] if w not in ('"0608"',)]
@@ -362,7 +364,7 @@ def whole():
     yield '{"modules":[],"actors":0,"write":[],"actors":[[]],"modules":["m.dll"]}', answer([], modules=["m.dll"])
     # what stands in the place of a command
     for text in ("0", "null", '"row"', "{}", "[]", "[0]", '["rows",0,"02000001"]', '["Row",0,"02000001"]', '["",0]', '[["row"],0,"02000001"]',
-                 '["resolve",0,"01000001"]', '["attribute",0,"0c000001"]', '["batch",0,[]]'):
+                 '["batch",0,[]]'):
         yield job([text]), NONE
     yield job(['["r\\u006fw",0,"\\u00302000001"]']), answer(["m0 row 02000001"])
     yield job(['["filled",0]'] * 3 + ["0", "1"]), "no command at 0.3"

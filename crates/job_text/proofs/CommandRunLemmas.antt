@@ -1,10 +1,9 @@
 -- A job that a value denotes can be run: the arguments of each command begin with a module that is there.
 use Rattle.std.proofs.Common.{◌≡◌, ℕ, ◌<◌, List, [], ◌∷◌, Bool, true, false, Option, Some, None, refl, subst, arith}
-use Rattle.std.proofs.lemmas.Bool.{and_parts}
 use Rattle.std.proofs.lemmas.Bool.Decides.{nat_tests}
 use Rattle.std.proofs.lemmas.Option.{none-some, same_Some}
 use Rattle.std.specs.List.{list_all}
-use Rattle.std.specs.Prelude.{◌&&◌, bytes_eq, option_map, IfSome, nat_lt}
+use Rattle.std.specs.Prelude.{bytes_eq, option_map, IfSome, nat_lt}
 use Rattle.cil_base.proofs.StepLemmas.{came, mapped, split}
 use Rattle.cil_base.specs.Steps.{◌>>=◌}
 use Rattle.cil_base.specs.Token.{root}
@@ -102,35 +101,29 @@ arguments_fit n before (kinds.Module ∷ rest) (d ∷ ds) b t e =
     arguments_keep n before rest c.by ds b (module_first n before no_args d c.by c.first) c.after
 arguments_fit n before rest ds b t e = absurd (cc)
 
--- a word asks or changes
-abbrev runs : Word → Bool
-runs (words.Ask question) = true
-runs (words.Change change) = true
-runs word = false
-
-word_runs : (n : ℕ) (word : Word) (a : Args) (c : Command) → runs word ≡ true → a.«module» < n → command_of word a ≡ Some c → CanRun n c
+-- what a word makes of the arguments is of their module
+word_runs : (n : ℕ) (word : Word) (a : Args) (c : Command) → a.«module» < n → command_of word a ≡ Some c → CanRun n c
 unfolding command_of
-word_runs n (words.Ask question) a c t k e =
+word_runs n (words.Ask question) a c k e =
     subst (CanRun n) (same_Some (commands.Query a.«module» (query_of question a)) c e) k
-word_runs n (words.Change change) a c t k e =
+word_runs n (words.Change change) a c k e =
     let m = mapped (commands.Edit a.«module») (edit_of change a) c e in
     subst (CanRun n) m.is k
-word_runs n words.Resolve a c t k e = absurd (cc)
-word_runs n words.Attribute a c t k e = absurd (cc)
+word_runs n words.Resolve a c k e = subst (CanRun n) (same_Some (commands.Resolve a.«module» a.token) c e) k
+word_runs n words.Attribute a c k e = subst (CanRun n) (same_Some (commands.Attribute a.«module» a.token) c e) k
 
-abbrev form_runs : FormOf → Bool
-form_runs form = runs form.word && begins form.kinds
+abbrev form_begins : FormOf → Bool
+form_begins form = begins form.kinds
 
-forms_run : list_all form_runs forms ≡ true
+forms_begin : list_all form_begins forms ≡ true
 unfolding forms
-forms_run = refl
+forms_begin = refl
 
-of_form_runs : (n : ℕ) (before : List Command) (ds : List Data) (form : FormOf) (c : Command) → form_runs form ≡ true → of_form n before ds form ≡ Some c → CanRun n c
+of_form_runs : (n : ℕ) (before : List Command) (ds : List Data) (form : FormOf) (c : Command) → form_begins form ≡ true → of_form n before ds form ≡ Some c → CanRun n c
 unfolding of_form
 of_form_runs n before ds form c t e =
-    let both = and_parts (runs form.word) (begins form.kinds) t in
     let m = came (with_arguments n before form.kinds no_args ds) (command_of form.word) c e in
-    word_runs n form.word m.by c both.0 (arguments_fit n before form.kinds ds m.by both.1 m.first) m.after
+    word_runs n form.word m.by c (arguments_fit n before form.kinds ds m.by t m.first) m.after
 
 of_values_run : (n : ℕ) (before : List Command) (ds : List Data) (c : Command) → of_values n before ds ≡ Some c → CanRun n c
 unfolding of_values form_named
@@ -138,8 +131,8 @@ of_values_run n before [] c e = absurd (none-some c e)
 of_values_run n before (d ∷ ds) c e =
     let m = came (given_text d >>= form_named) (of_form n before ds) c e in
     let name = came (given_text d) form_named m.by m.first in
-    let t : form_runs m.by ≡ true =
-    subst (λ (o : Option FormOf). IfSome o (λ form. form_runs form ≡ true)) name.after (find-all (λ form. bytes_eq form.name name.by) form_runs forms forms_run) in
+    let t : form_begins m.by ≡ true =
+    subst (λ (o : Option FormOf). IfSome o (λ form. form_begins form ≡ true)) name.after (find-all (λ form. bytes_eq form.name name.by) form_begins forms forms_begin) in
     of_form_runs n before ds m.by c t m.after
 
 pub command_runs : (n : ℕ) (before : List Command) (d : Data) (c : Command) → given_command n before d ≡ Some c → CanRun n c

@@ -56,6 +56,8 @@ forms =
     ∷ row_form (codes "ilhead") (words.Change changes.IlHead) (kinds.MaxStack ∷ kinds.InitLocals ∷ kinds.Locals ∷ [])
     ∷ row_form (codes "iltry") (words.Change changes.AddHandler) (kinds.HandlerKind ∷ handler_ends ++ kinds.HandlerWith ∷ [])
     ∷ row_form (codes "iluntry") (words.Change changes.RemoveHandler) (kinds.At ∷ [])
+    ∷ row_form (codes "resolve") words.Resolve []
+    ∷ row_form (codes "attribute") words.Attribute []
     ∷ []
 
 -- a form of the code, as it is here

@@ -84,7 +84,7 @@ macro_rules! form {
 }
 
 /// The commands.
-static FORMS: [Form; 30] = [
+static FORMS: [Form; 32] = [
     form!("row", Word::Ask(Question::Row), Token),
     form!("sig", Word::Ask(Question::Sig), Token),
     form!("body", Word::Ask(Question::Body), Token),
@@ -166,6 +166,8 @@ static FORMS: [Form; 30] = [
         HandlerWith
     ),
     form!("iluntry", Word::Change(Change::RemoveHandler), Token, At),
+    form!("resolve", Word::Resolve, Token),
+    form!("attribute", Word::Attribute, Token),
 ];
 
 /// The commands, lent.
