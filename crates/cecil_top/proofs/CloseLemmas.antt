@@ -1,5 +1,5 @@
 -- One module closed after the other.
-use Rattle.std.proofs.Common.{◌≡◌, refl, sym, ◌∙◌, ap, subst, ℕ, suc, ◌+◌, ◌<◌, List, [], ◌∷◌, ◌++◌, Some, None, length, length-append, slice_get, arith, All}
+use Rattle.std.proofs.Common.{◌≡◌, sym, ◌∙◌, ap, subst, ℕ, suc, ◌+◌, ◌<◌, List, [], ◌∷◌, ◌++◌, Some, None, length, length-append, slice_get, arith, All}
 use mathlib.Core.Logic.{dite}
 use native.Mathlib.Decide.{dec_le}
 use Rattle.std.proofs.lemmas.List.{length-set}
@@ -7,6 +7,7 @@ use Rattle.std.proofs.lemmas.Option.{slice_get_within}
 use Rattle.lazy_core.specs.History.{entry_caller}
 use Rattle.lazy_core.specs.Slots.{CoreState}
 use Rattle.shared_module.proofs.PrefixLemmas.{one_behind}
+use Rattle.cecil_top.specs.Acts.{acts_of}
 use Rattle.cecil_top.specs.Explained.{ExplainsCaller}
 use Rattle.cecil_top.specs.declared.actor.Actor.{Actor}
 use Rattle.cecil_top.specs.inner.Ends.{AllAreClosed, AllAreSameFrom, AreWithout, CanClose, IsClosed, IsSameFrom}
@@ -34,8 +35,8 @@ module _ (n : ℕ) (old now : List Actor) (s : AllAreSameFrom n old now) where
     passes = λ i x p at is. let a = was i x at in can.passes i a.0 p a.1 (sym (a.2.passes n (omega arith)) ∙ is);
     explained = λ i x p at is.
         let a = was i x at in
-        subst (λ cs. ExplainsCaller l.base i n cs x.said (seen_by p)) (sym a.2.commands)
-        (subst (λ y. ExplainsCaller l.base i n a.0.commands y (seen_by p)) (sym a.2.said)
+        subst (λ cs. ExplainsCaller l.base i n (acts_of cs x.said) (seen_by p)) (sym a.2.commands)
+        (subst (λ y. ExplainsCaller l.base i n (acts_of a.0.commands y) (seen_by p)) (sym a.2.said)
         (can.explained i a.0 p a.1 (sym (a.2.passes n (omega arith)) ∙ is)));
   }
 
@@ -50,8 +51,8 @@ module _ (n : ℕ) (old now : List Actor) (s : AllAreSameFrom n old now) where
         let within = slice_get_within old i a at in
         let x = item_at now i (omega (arith, many, within)) in
         let same = s.each i a x.0 at x.1 in
-        subst (λ cs. ExplainsCaller core.bytes i n cs a.said core.history) same.commands
-        (subst (λ y. ExplainsCaller core.bytes i n x.0.commands y core.history) same.said (c.explained i x.0 x.1));
+        subst (λ cs. ExplainsCaller core.bytes i n (acts_of cs a.said) core.history) same.commands
+        (subst (λ y. ExplainsCaller core.bytes i n (acts_of x.0.commands y) core.history) same.said (c.explained i x.0 x.1));
   }
 
   pub same_without : (new : List Actor) → AreWithout n now new (length now) → AllAreSameFrom (n + 1) old new

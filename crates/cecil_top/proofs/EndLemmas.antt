@@ -1,22 +1,19 @@
 -- Passes out of all actors, and the end of one module.
-use Rattle.std.proofs.Common.{◌≡◌, ◌≢◌, refl, sym, ◌∙◌, ap, subst, ℕ, suc, ◌+◌, ◌<◌, ◌⊎◌, inl, inr, List, [], ◌∷◌, ◌++◌, Some, length, length-append, slice_get, slice_set, arith, All, Any}
+use Rattle.std.proofs.Common.{◌≡◌, sym, subst, ℕ, ◌<◌, List, Some, length, slice_get, arith, All, Any}
 use mathlib.Core.List.{IsPrefix}
-use mathlib.Core.Logic.{dite}
-use native.Mathlib.Decide.{dec_le}
-use Rattle.std.proofs.lemmas.List.{length-set}
 use Rattle.std.proofs.lemmas.Option.{get_or_from_slice_get, slice_get_within}
 use Rattle.turn_lock.specs.Passes.{AreAllOf, IsPassOf}
 use Rattle.turn_lock.specs.Views.{own}
 use Rattle.lazy_core.specs.History.{entry_caller}
 use Rattle.lazy_core.specs.Legal.{Legal}
 use Rattle.lazy_core.specs.Slots.{CoreState}
-use Rattle.shared_module.proofs.PrefixLemmas.{one_behind}
+use Rattle.cecil_top.specs.Acts.{acts_of}
 use Rattle.cecil_top.specs.Explained.{ExplainsCaller}
 use Rattle.cecil_top.specs.declared.actor.Actor.{Actor}
-use Rattle.cecil_top.specs.inner.Ends.{AreGiven, AreWithout, CanClose, IsClosed, without_pass}
+use Rattle.cecil_top.specs.inner.Ends.{AreGiven, CanClose, IsClosed}
 use Rattle.cecil_top.specs.inner.Passes.{Held, Shared}
 use Rattle.cecil_top.proofs.CallerLemmas.{explains_longer}
-use Rattle.cecil_top.proofs.PlaceLemmas.{all_at, at_all, front_item, item_at, other_item, same_at, same_or_not, set_item}
+use Rattle.cecil_top.proofs.PlaceLemmas.{all_at, at_all, item_at}
 
 module _ (l : Shared) (m : ℕ) (actors : List Actor) (passes : List Held) (can : CanClose l m actors) (g : AreGiven m actors passes (length actors)) where
   pass_of : (i : ℕ) (a : Actor) (p : Held) → slice_get actors i ≡ Some a → slice_get passes i ≡ Some p → IsPassOf l p × (p.number ≡ i)
@@ -52,7 +49,7 @@ module _ (l : Shared) (m : ℕ) (actors : List Actor) (passes : List Held) (can 
     explained = explained;
   }
     where
-      explained : (i : ℕ) (a : Actor) → slice_get actors i ≡ Some a → ExplainsCaller core.bytes i m a.commands a.said core.history
+      explained : (i : ℕ) (a : Actor) → slice_get actors i ≡ Some a → ExplainsCaller core.bytes i m (acts_of a.commands a.said) core.history
       explained i a at =
           let many = g.as_many in
           let within = slice_get_within actors i a at in
@@ -61,5 +58,5 @@ module _ (l : Shared) (m : ℕ) (actors : List Actor) (passes : List Held) (can 
           let front = all_at (λ (q : Held). IsPrefix q.seen core.history) passes seen i p.0 p.1 in
           let same = subst (λ k. own entry_caller k core.history ≡ own entry_caller k p.0.seen) its.1
           (all_at (λ (q : Held). own entry_caller q.number core.history ≡ own entry_caller q.number q.seen) passes mine i p.0 p.1) in
-          subst (λ b. ExplainsCaller b i m a.commands a.said core.history) (sym bytes)
-          (explains_longer l.base i m a.commands a.said p.0.seen (can.explained i a (Some p.0) at (g.each i a p.0 at p.1)) core.history front same)
+          subst (λ b. ExplainsCaller b i m (acts_of a.commands a.said) core.history) (sym bytes)
+          (explains_longer l.base i m (acts_of a.commands a.said) p.0.seen (can.explained i a (Some p.0) at (g.each i a p.0 at p.1)) core.history front same)

@@ -3,7 +3,6 @@ use Rattle.std.proofs.Common.{◌≡◌, ◌≢◌, refl, sym, ◌∙◌, ap, su
 use Rattle.std.proofs.lemmas.List.{length-set}
 use Rattle.std.proofs.lemmas.Option.{slice_get_within}
 use Rattle.cil_base.specs.declared.no_memory.NoMemory.{NoMemory}
-use Rattle.job_text.specs.declared.command.Command.{Command}
 use Rattle.job_text.specs.declared.command.Command.TheVariants as commands
 use Rattle.node_model.specs.declared.edit.Edit.{Edit}
 use Rattle.node_model.specs.declared.query.Query.{Query}
@@ -11,8 +10,8 @@ use Rattle.shared_module.specs.Adds.{AddsFills, IsForEdit, IsForQuery, by_of}
 use Rattle.shared_module.specs.Answers.{EndsWithDone, IsAnswer, IsEdited, before_done}
 use Rattle.shared_module.specs.declared.ask.Answer.{Answer}
 use Rattle.shared_module.specs.declared.edit.Edited.{Edited}
+use Rattle.cecil_top.specs.Acts.{Act, single_act}
 use Rattle.cecil_top.specs.Commands.{home_of}
-use Rattle.cecil_top.specs.declared.said.Said.{Said}
 use Rattle.cecil_top.specs.declared.said.Said.TheVariants as saids
 use Rattle.cecil_top.specs.inner.Passes.{HasPassAt, HasPasses, Held, IsPassFor, IsPassStep, IsThere, Shared, seen_by}
 use Rattle.cecil_top.specs.inner.Steps.{IsStep}
@@ -57,32 +56,33 @@ module _ (modules : List Shared) (k m : ℕ) (old mid new : List (Option Held)) 
           subst (λ y. IsPassFor y k o) same_module (subst (λ y. IsPassFor l k y) same_pass is)
       by_place j x o there now (inr n) = has.each j x o there (sym (other_pass j n) ∙ now)
 
-  pub pass_step : (n : ℕ) (command : Command) (a : Said) → home_of command ≡ m → IsStep l.base (by_of k n 0) command a p.seen q.seen
-      → IsPassStep modules k n command a old new
-  pass_step n command a here step = record {
+  pub pass_step : (act : Act) → home_of act.asked ≡ m → IsStep l.base (by_of k act.command act.step) act.asked act.said p.seen q.seen
+      → IsPassStep modules k act old new
+  pass_step act here step = record {
     others = λ j other. other_pass j (λ e. other (e ∙ sym here));
     own = λ x o r there before now.
         let same_module = same_at modules m l x at (ap (slice_get modules) (sym here) ∙ there) in
         let same_old = same_at old m (Some p) o was (ap (slice_get old) (sym here) ∙ before) in
         let same_new = same_at new m (Some q) r pass_now (ap (slice_get new) (sym here) ∙ now) in
-        subst (λ y. IsStep y.base (by_of k n 0) command a (seen_by o) (seen_by r)) same_module
-        (subst (λ y. IsStep l.base (by_of k n 0) command a (seen_by o) (seen_by y)) same_new
-        (subst (λ y. IsStep l.base (by_of k n 0) command a (seen_by y) q.seen) same_old step));
+        subst (λ y. IsStep y.base (by_of k act.command act.step) act.asked act.said (seen_by o) (seen_by r)) same_module
+        (subst (λ y. IsStep l.base (by_of k act.command act.step) act.asked act.said (seen_by o) (seen_by y)) same_new
+        (subst (λ y. IsStep l.base (by_of k act.command act.step) act.asked act.said (seen_by y) q.seen) same_old step));
   }
 
   module _ (number : p.number ≡ k) (n : ℕ) where
-    pub query_step : (query : Query) (r : Result Answer NoMemory) → AddsFills (by_of p.number n 0) (IsForQuery query) p.seen q.seen
-        → IfOk r (IsAnswer l.base query q.seen) → IfOk r (λ a. IsPassStep modules k n (commands.Query m query) (saids.Query a) old new)
-    query_step query (Ok a) adds is =
-        pass_step n (commands.Query m query) (saids.Query a) refl
-        (step_asked l.base (by_of k n 0) m query a p.seen q.seen (subst (λ j. AddsFills (by_of j n 0) (IsForQuery query) p.seen q.seen) number adds) is)
-    query_step query (Err e) adds is = tt
+    pub query_step : (step : ℕ) (query : Query) (r : Result Answer NoMemory) → AddsFills (by_of p.number n step) (IsForQuery query) p.seen q.seen
+        → IfOk r (IsAnswer l.base query q.seen)
+        → IfOk r (λ a. IsPassStep modules k (record { command = n; step = step; asked = commands.Query m query; said = saids.Query a }) old new)
+    query_step step query (Ok a) adds is =
+        pass_step (record { command = n; step = step; asked = commands.Query m query; said = saids.Query a }) refl
+        (step_asked l.base (by_of k n step) m query a p.seen q.seen (subst (λ j. AddsFills (by_of j n step) (IsForQuery query) p.seen q.seen) number adds) is)
+    query_step step query (Err e) adds is = tt
 
     pub edit_step : (e : Edit) (r : Result Edited NoMemory) → AddsFills (by_of p.number n 0) (IsForEdit l.base e) p.seen (before_done q.seen r)
         → EndsWithDone (by_of p.number n 0) e q.seen r → IfOk r (IsEdited l.base e q.seen)
-        → IfOk r (λ x. IsPassStep modules k n (commands.Edit m e) (saids.Edit x) old new)
+        → IfOk r (λ x. IsPassStep modules k (single_act n (commands.Edit m e) (saids.Edit x)) old new)
     edit_step e (Ok x) adds done is =
-        pass_step n (commands.Edit m e) (saids.Edit x) refl
+        pass_step (single_act n (commands.Edit m e) (saids.Edit x)) refl
         (step_edited l.base (by_of k n 0) m e p.seen q.seen x
         (subst (λ j. AddsFills (by_of j n 0) (IsForEdit l.base e) p.seen (before_done q.seen (Ok x))) number adds)
         (subst (λ j. EndsWithDone (by_of j n 0) e q.seen (Ok x)) number done) is)

@@ -7,10 +7,10 @@ use Rattle.job_text.specs.declared.command.Command.{Command}
 use Rattle.lazy_core.specs.History.{entry_caller}
 use Rattle.lazy_core.specs.Legal.{Legal}
 use Rattle.lazy_core.specs.Slots.{CoreState}
+use Rattle.cecil_top.specs.Acts.{acts_of}
 use Rattle.cecil_top.specs.Explained.{ExplainsCaller}
 use Rattle.cecil_top.specs.Explains.{AreDone, Explains}
 use Rattle.job_text.specs.Runnable.{AreRunnable, CanRun}
-use Rattle.cecil_top.specs.Untouched.{AreUntouched}
 use Rattle.cecil_top.specs.declared.actor.Actor.{Actor}
 use Rattle.cecil_top.specs.declared.record.ActorRecord.{ActorRecord}
 use Rattle.cecil_top.specs.inner.Actors.{AllHaveRun, FitModules, IsReady}
@@ -39,19 +39,21 @@ module _ (cores : List CoreState) (given : List (List Command)) (runnable : AreR
   is_ready i a is =
       let made = new_at i a is in
       let many = opened.as_many in
+      let few = runnable.modules_few in
       record {
         passes = record {
           as_many = made.2.passes.as_many;
           each = λ m l p at there. subst (IsPassFor l a.number) (sym (made.2.passes.each m l p at there)) ((refl, refl), sym made.2.number);
         };
         fit = subst (FitModules modules) (sym made.2.given) (
+          omega (arith, many, few),
           all_at (λ (cs : List Command). length cs ≤ 4096) given runnable.commands_few i made.0 made.1,
           subst (λ k. All (CanRun k) made.0) (sym many) (all_at (All (CanRun (length cores))) given runnable.each i made.0 made.1),
         );
         none_done = made.2.none_done;
         none_said = made.2.none_said;
         so_far = λ m l p at there.
-            subst (λ q. ExplainsCaller l.base a.number m [] [] (seen_by q)) (sym (made.2.passes.each m l p at there)) (explains_none l.base a.number m);
+            subst (λ q. ExplainsCaller l.base a.number m [] (seen_by q)) (sym (made.2.passes.each m l p at there)) (explains_none l.base a.number m);
       }
 
   pub all_ready : All (IsReady modules) a1
@@ -61,8 +63,8 @@ module _ (cores : List CoreState) (given : List (List Command)) (runnable : AreR
     -- an actor that has done all
     record IsThrough (i : ℕ) (a : Actor) : Type 0 where
       pub passes : HasPasses modules i a.passes
-      pub done : (cs : List Command) → slice_get given i ≡ Some cs → AreDone cs a.commands a.said
-      pub explained : ExplainsSoFar modules i a.commands a.said a.passes
+      pub done : (cs : List Command) → slice_get given i ≡ Some cs → AreDone (length modules) cs a.commands a.said
+      pub explained : ExplainsSoFar modules i (acts_of a.commands a.said) a.passes
 
     through : (i : ℕ) (a : Actor) → slice_get a2 i ≡ Some a → IsThrough i a
     through i a is =
@@ -75,8 +77,8 @@ module _ (cores : List CoreState) (given : List (List Command)) (runnable : AreR
         let long = all_at (λ (y : Actor). y.short ≡ false) a2 none_short i a is in
         record {
           passes = subst (λ k. HasPasses modules k a.passes) number r.passes;
-          done = λ cs at. subst (λ y. AreDone y a.commands a.said) ((new.each i cs x.0 at x.1).given) (r.done long);
-          explained = subst (λ k. ExplainsSoFar modules k a.commands a.said a.passes) number (r.explained long);
+          done = λ cs at. subst (λ y. AreDone (length modules) y a.commands a.said) ((new.each i cs x.0 at x.1).given) (r.done long);
+          explained = subst (λ k. ExplainsSoFar modules k (acts_of a.commands a.said) a.passes) number (r.explained long);
         }
 
     pub all_can_close : AllCanClose modules a2
@@ -124,6 +126,9 @@ module _ (cores : List CoreState) (given : List (List Command)) (runnable : AreR
       actors_many : length a2 ≡ length given
       actors_many = ran.as_many ∙ new.as_many ∙ sym count
 
+      modules_many : length modules ≡ length (bytes_of cores)
+      modules_many = opened.as_many ∙ sym (length-map cores (λ (core : CoreState). core.bytes))
+
       pub run_explains : Explains (bytes_of cores) given (record { cores = ends; actors = map record_of a3 })
       run_explains = record {
         bytes = bytes_same;
@@ -133,10 +138,11 @@ module _ (cores : List CoreState) (given : List (List Command)) (runnable : AreR
             (λ m core is. subst (λ n. All (λ e. entry_caller e < n) core.history) actors_many (closed_at m core is).2.callers);
         done = λ i cs r at is.
             let a = kept_of i r is in
-            subst (λ (y : ActorRecord). AreDone cs y.commands y.said) a.2 ((through i a.0 a.1).done cs at);
+            subst (λ (y : ActorRecord). AreDone (length (bytes_of cores)) cs y.commands y.said) a.2
+            (subst (λ n. AreDone n cs a.0.commands a.0.said) modules_many ((through i a.0 a.1).done cs at));
         explained = λ m i core r at is.
             let a = kept_of i r is in
-            subst (λ (y : ActorRecord). ExplainsCaller core.bytes i m y.commands y.said core.history) a.2 ((closed_at m core at).2.explained i a.0 a.1);
+            subst (λ (y : ActorRecord). ExplainsCaller core.bytes i m (acts_of y.commands y.said) core.history) a.2 ((closed_at m core at).2.explained i a.0 a.1);
       }
 
     -- what closing comes to

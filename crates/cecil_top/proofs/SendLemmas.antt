@@ -1,6 +1,11 @@
 -- An actor may go to another thread, part by part, and threads may share a module.
 use denote.Param.Send.{IsSend, IsSync, sendable}
 use Rattle.std.proofs.Crossing.{crosses}
+use Rattle.attr_blob.proofs.value.Arg.TheLaws.TheKnot as args
+use Rattle.attr_blob.proofs.value.ArgType.TheLaws.TheKnot as arg_types
+use Rattle.attr_blob.specs.contracts.value.Arg as arg
+use Rattle.attr_blob.specs.contracts.value.AttrValue as attr_value
+use Rattle.attr_blob.specs.contracts.value.NamedArg as named_arg
 use Rattle.il_code.proofs.handler.Handler.TheSendSync as handler
 use Rattle.il_code.proofs.instr.Instr.TheSendSync as instr
 use Rattle.pe_image.proofs.facts.Facts.TheSendSync as facts
@@ -20,6 +25,7 @@ use Rattle.node_model.specs.contracts.edit.Edit as edit
 use Rattle.node_model.specs.contracts.edit.OptSig as opt_sig
 use Rattle.node_model.specs.contracts.reply.MethodView as method_view
 use Rattle.node_model.specs.contracts.reply.Reply as reply
+use Rattle.resolver.specs.contracts.next.Next as next
 use Rattle.shared_module.proofs.edit.Edited.TheSendSync as edited
 use Rattle.shared_module.specs.contracts.ask.Answer as answer
 use Rattle.shared_module.specs.contracts.shared.SharedModule as shared
@@ -27,6 +33,8 @@ use Rattle.turn_lock.proofs.lock.TurnLock.TheSendSync as lock
 use Rattle.turn_lock.proofs.pass.Pass.TheSendSync as pass
 use Rattle.lazy_core.proofs.SendLemmas.{core_send}
 use Rattle.cecil_top.specs.contracts.actor.Actor as actor
+use Rattle.cecil_top.specs.contracts.said.Asked as asked
+use Rattle.cecil_top.specs.contracts.said.Resolution as resolution
 use Rattle.cecil_top.specs.contracts.said.Said as said
 
 sig_is : IsSend (sig.the_field).row
@@ -69,8 +77,35 @@ reply_is =
 answer_is : IsSend (answer.the_field).row
 answer_is = search (reply_is, crosses, sendable) depth 60 fits 20000
 
+named_arg_is : IsSend (named_arg.the_field).row
+named_arg_is = search (args.crosses, arg_types.crosses, crosses, sendable) depth 60 fits 20000
+
+named_arg_send : IsSend named_arg.the_row
+named_arg_send = search (named_arg_is, sendable) depth 60 fits 20000
+
+arg_is : IsSend (arg.the_field).row
+arg_is = search (args.crosses, arg_types.crosses, crosses, sendable) depth 60 fits 20000
+
+arg_send : IsSend arg.the_row
+arg_send = search (arg_is, sendable) depth 60 fits 20000
+
+attr_value_is : IsSend (attr_value.the_field).row
+attr_value_is = search (arg_send, named_arg_send, crosses, sendable) depth 60 fits 40000
+
+next_is : IsSend (next.the_field).row
+next_is = search (attr_value_is, reply_is, query.the_field_send, crosses, sendable) depth 60 fits 20000
+
+asked_is : IsSend (asked.the_field).row
+asked_is = search (answer_is, query.the_field_send, crosses, sendable) depth 60 fits 20000
+
+asked_send : IsSend asked.the_row
+asked_send = search (asked_is, sendable) depth 60 fits 20000
+
+resolution_is : IsSend (resolution.the_field).row
+resolution_is = search (asked_send, next_is, crosses, sendable) depth 60 fits 20000
+
 said_is : IsSend (said.the_field).row
-said_is = search (answer_is, edited.the_field_send, crosses, sendable) depth 60 fits 20000
+said_is = search (answer_is, edited.the_field_send, resolution_is, crosses, sendable) depth 60 fits 20000
 
 said_send : IsSend said.the_row
 said_send = search (said_is, sendable) depth 60 fits 20000

@@ -6,7 +6,7 @@ use Rattle.std.proofs.Math.Seq.{drop-cons}
 use Rattle.job_text.specs.declared.command.Command.{Command}
 use Rattle.lazy_core.specs.Slots.{CoreState}
 use Rattle.node_model.specs.declared.entry.Entry.{Entry}
-use Rattle.cecil_top.specs.RunText.{actor_lines, answer_line, answer_lines, entry_line, entry_lines, history_text, history_texts}
+use Rattle.cecil_top.specs.RunText.{actor_lines, answer_lines, entry_line, entry_lines, history_text, history_texts, said_lines}
 use Rattle.cecil_top.specs.declared.record.ActorRecord.{ActorRecord}
 use Rattle.cecil_top.specs.declared.said.Said.{Said}
 
@@ -50,10 +50,10 @@ histories_next text new n xs x within is added =
     added (ap (history_texts n) (left_at xs n x within is))
 
 pub answers_next : (text new : List ℕ) (k n : ℕ) (cs : List Command) (said : List Said) (c : Command) (a : Said)
-    → n < length cs → n < length said → c ≡ get_or cs n c → a ≡ get_or said n a → new ≡ text ++ answer_line k n c a
+    → n < length cs → n < length said → c ≡ get_or cs n c → a ≡ get_or said n a → new ≡ text ++ said_lines k n c a
     → new ++ answer_lines k (n + 1) (drop (n + 1) cs) (drop (n + 1) said) ≡ text ++ answer_lines k n (drop n cs) (drop n said)
 answers_next text new k n cs said c a in_cs in_said is-c is-a added =
-    goes_on text new (answer_line k n c a) (answer_lines k (n + 1) (drop (n + 1) cs) (drop (n + 1) said))
+    goes_on text new (said_lines k n c a) (answer_lines k (n + 1) (drop (n + 1) cs) (drop (n + 1) said))
     (answer_lines k n (drop n cs) (drop n said)) added
     (ap (λ l. answer_lines k n l (drop n said)) (left_at cs n c in_cs is-c)
     ∙ ap (λ l. answer_lines k n (c ∷ drop (n + 1) cs) l) (left_at said n a in_said is-a))

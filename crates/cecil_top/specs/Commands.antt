@@ -1,5 +1,5 @@
 -- What a command speaks of, and what its answer tells.
-use Rattle.std.specs.Prelude.{ℕ, ◌==◌, List, [], ◌∷◌, ◌++◌, Option, None, if◌then◌else◌}
+use Rattle.std.specs.Prelude.{ℕ, List, [], ◌∷◌, Option, None}
 use Rattle.cil_base.specs.Token.{Token}
 use Rattle.graph_edits.specs.declared.applied.Outcome.{Outcome}
 use Rattle.graph_edits.specs.declared.applied.Outcome.TheVariants.{Done, Refused}
@@ -16,10 +16,12 @@ home_of (commands.Edit m e) = m
 home_of (commands.Resolve m t) = m
 home_of (commands.Attribute m t) = m
 
--- the point of that module's history for which an answer is given, as a number of entries
+-- The point of that module's history for which an answer is given, as a number of entries. A resolution has none: each
+-- of its questions has its own.
 abbrev pub point_of : Said → ℕ
 point_of (saids.Query a) = a.at
 point_of (saids.Edit x) = x.at
+point_of (saids.Resolved r) = 0
 
 abbrev pub outcome_row : Outcome → Option Token
 outcome_row (Done made) = made
@@ -29,6 +31,7 @@ outcome_row (Refused r) = None
 abbrev pub said_token : Said → Option Token
 said_token (saids.Query a) = None
 said_token (saids.Edit x) = outcome_row x.outcome
+said_token (saids.Resolved r) = None
 
 abbrev pub if_done : Edit → Outcome → List Edit
 if_done e (Done made) = e ∷ []
@@ -39,11 +42,6 @@ abbrev pub done_by : Command → Said → List Edit
 done_by (commands.Query m q) a = []
 done_by (commands.Edit m e) (saids.Query a) = []
 done_by (commands.Edit m e) (saids.Edit x) = if_done e x.outcome
+done_by (commands.Edit m e) (saids.Resolved r) = []
 done_by (commands.Resolve m t) a = []
 done_by (commands.Attribute m t) a = []
-
--- the edits of one module that were answered Done, each once, in the order of their commands
-abbrev pub done_edits : ℕ → List Command → List Said → List Edit
-done_edits m [] said = []
-done_edits m (command ∷ cs) [] = []
-done_edits m (command ∷ cs) (a ∷ said) = (if home_of command == m then done_by command a else []) ++ done_edits m cs said

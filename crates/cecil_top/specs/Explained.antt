@@ -12,7 +12,8 @@ use Rattle.node_model.specs.declared.entry.Why.{Why}
 use Rattle.lazy_core.specs.History.{edits, entry_caller}
 use Rattle.shared_module.specs.Adds.{IsForEdit, IsForQuery, by_of}
 use Rattle.shared_module.specs.Answers.{IsAnswer, IsEdited, LastIsDone}
-use Rattle.cecil_top.specs.Commands.{done_edits, home_of, point_of}
+use Rattle.cecil_top.specs.Acts.{Act, done_edits}
+use Rattle.cecil_top.specs.Commands.{home_of, point_of}
 use Rattle.cecil_top.specs.declared.said.Said.{Said}
 use Rattle.cecil_top.specs.declared.said.Said.TheVariants as saids
 
@@ -23,9 +24,11 @@ use Rattle.cecil_top.specs.declared.said.Said.TheVariants as saids
 abbrev pub IsAnswerTo : List ℕ → By → Command → Said → List Entry → Type 0
 IsAnswerTo b by (commands.Query m q) (saids.Query a) h = IsAnswer b q (take a.at h) a
 IsAnswerTo b by (commands.Query m q) (saids.Edit x) h = ⊥
+IsAnswerTo b by (commands.Query m q) (saids.Resolved r) h = ⊥
 IsAnswerTo b by (commands.Edit m e) (saids.Query a) h = ⊥
 IsAnswerTo b by (commands.Edit m e) (saids.Edit x) h =
     IsEdited b e (take x.at h) x × LastIsDone by e (take x.at h) x.outcome
+IsAnswerTo b by (commands.Edit m e) (saids.Resolved r) h = ⊥
 IsAnswerTo b by (commands.Resolve m t) a h = ⊥
 IsAnswerTo b by (commands.Attribute m t) a h = ⊥
 
@@ -56,39 +59,38 @@ abbrev pub entry_begun : ℕ → Entry → ℕ
 entry_begun place (Fill by point why key) = point
 entry_begun place (Edit by es) = place
 
--- the command of this number speaks of this module, and was answered so
-pub record IsSaid (m : ℕ) (cs : List Command) (said : List Said) (n : ℕ) (command : Command) (a : Said) : Type 0 where
-  pub asked : slice_get cs n ≡ Some command
-  pub home : home_of command ≡ m
-  pub told : slice_get said n ≡ Some a
+-- the act at this place speaks of this module
+pub record IsSaid (m : ℕ) (acts : List Act) (n : ℕ) (act : Act) : Type 0 where
+  pub told : slice_get acts n ≡ Some act
+  pub home : home_of act.asked ≡ m
 
--- An entry of the caller, with so many entries before it, is one of an answered command of this module, of its step 0.
--- It stands not behind the answer of this command, and behind what was answered to each earlier one about the module;
--- nor did it begin before that.
-pub record StandsBy (b : List ℕ) (m : ℕ) (cs : List Command) (said : List Said) (before : List Entry) (e : Entry) :
-    Type 0 where
-  pub answered : (entry_by e).command < length said
-  pub step : (entry_by e).step ≡ 0
-  pub belongs :
-      (command : Command) → slice_get cs (entry_by e).command ≡ Some command
-      → (home_of command ≡ m) × IsEntryOf b command before e
-  pub ends : (a : Said) → slice_get said (entry_by e).command ≡ Some a → length before < point_of a
+-- An entry of the caller, with so many entries before it, is one of an act about this module, by its command and step. It
+-- stands not behind the answer of this act, and behind what was answered to each earlier one about the module; nor did it
+-- begin before that.
+pub record StandsBy (b : List ℕ) (m : ℕ) (acts : List Act) (before : List Entry) (e : Entry) : Type 0 where
+  pub place : ℕ
+  pub act : Act
+  pub of : IsSaid m acts place act
+  pub command : (entry_by e).command ≡ act.command
+  pub step : (entry_by e).step ≡ act.step
+  pub belongs : IsEntryOf b act.asked before e
+  pub ends : length before < point_of act.said
   pub begins :
-      (n : ℕ) (command : Command) (a : Said) → n < (entry_by e).command → IsSaid m cs said n command a
-      → (point_of a ≤ length before) × (point_of a ≤ entry_begun (length before) e)
+      (n : ℕ) (other : Act) → n < place → IsSaid m acts n other
+      → (point_of other.said ≤ length before) × (point_of other.said ≤ entry_begun (length before) e)
 
--- All that was said to the caller k about the module m, whose image has the bytes b, in answer to the commands cs:
-pub record ExplainsCaller (b : List ℕ) (k m : ℕ) (cs : List Command) (said : List Said) (h : List Entry) : Type 0 where
+-- All that was said to the caller k about the module m, whose image has the bytes b, in its acts:
+pub record ExplainsCaller (b : List ℕ) (k m : ℕ) (acts : List Act) (h : List Entry) : Type 0 where
   -- each answer is what the history calls for,
   pub answers :
-      (n : ℕ) (command : Command) (a : Said) → IsSaid m cs said n command a → IsAnswerTo b (by_of k n 0) command a h
+      (n : ℕ) (act : Act) → IsSaid m acts n act → IsAnswerTo b (by_of k act.command act.step) act.asked act.said h
   -- points never fall,
   pub rises :
-      (n d : ℕ) (command other : Command) (a x : Said) → n < d → IsSaid m cs said n command a
-      → IsSaid m cs said d other x → point_of a ≤ point_of x
+      (n d : ℕ) (act other : Act) → n < d → IsSaid m acts n act → IsSaid m acts d other
+      → point_of act.said ≤ point_of other.said
   -- each entry of the caller stands where it was made,
   pub stands :
       (place : ℕ) (e : Entry) → slice_get h place ≡ Some e → entry_caller e ≡ k
-      → StandsBy b m cs said (take place h) e
+      → StandsBy b m acts (take place h) e
   -- and the caller's edits there are those that were answered Done, each once, in order
-  pub edited : edits (own entry_caller k h) ≡ done_edits m cs said
+  pub edited : edits (own entry_caller k h) ≡ done_edits m acts

@@ -1,6 +1,9 @@
+pub mod Acts
 pub mod Commands
+pub mod EndTexts
 pub mod Explained
 pub mod Explains
+pub mod Following
 pub mod RunText
 pub mod Tool
 pub mod ToolFiles

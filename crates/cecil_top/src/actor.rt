@@ -1,5 +1,6 @@
 //! An actor does its commands in order.
-ghost use Rattle.std.specs.Prelude.{◌≡◌, [], OnOk};
+ghost use Rattle.std.specs.Prelude.{◌≡◌, [], OnOk, length};
+ghost use Rattle.cecil_top.specs.Acts.{acts_of};
 ghost use Rattle.cecil_top.specs.Explains.{AreDone};
 ghost use Rattle.cecil_top.specs.inner.Actors.{FitModules, HasRun, IsReady};
 ghost use Rattle.cecil_top.specs.inner.Passes.{ExplainsSoFar, HasPasses};
@@ -40,10 +41,11 @@ fn do_commands<R: Wait, G: Decoder>(
     requires passes { HasPasses modules.now actor passes.old }
     requires fit { FitModules modules.now given.now }
     requires none { (commands.old ≡ []) × (said.old ≡ []) }
-    requires so_far { ExplainsSoFar modules.now actor [] [] passes.old }
+    requires so_far { ExplainsSoFar modules.now actor [] passes.old }
     ensures passes { HasPasses modules.now actor passes.new }
-    ensures done { OnOk result (AreDone given.now commands.new said.new) }
-    ensures explained { OnOk result (ExplainsSoFar modules.now actor commands.new said.new passes.new) }
+    ensures done { OnOk result (AreDone (length modules.now) given.now commands.new said.new) }
+    ensures explained { OnOk result (ExplainsSoFar modules.now actor (acts_of commands.new said.new)
+        passes.new) }
 {
     let mut made = List::new(alloc);
     let count = given.len() as u32;

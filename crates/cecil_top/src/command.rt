@@ -1,26 +1,29 @@
 //! One command of one actor.
-ghost use Rattle.std.specs.Prelude.{◌≡◌, ◌<◌, IfOk, OnOk, length};
+ghost use Rattle.std.specs.Prelude.{◌≡◌, ◌<◌, ◌≤◌, IfOk, OnOk, length};
 ghost use Rattle.job_text.specs.declared.command.Command.TheVariants as commands;
 ghost use Rattle.job_text.specs.Runnable.{CanRun};
 ghost use Rattle.cecil_top.specs.declared.said.Said.TheVariants as saids;
 ghost use Rattle.cecil_top.specs.inner.Passes.{HasPasses, IsPassStep, IsSaidStep};
 
+use crate::following::follow;
 use crate::passes::{put_pass, take_pass};
-use crate::said::{Said, tell_answer, tell_edit};
+use crate::said::{Said, tell_answer, tell_edit, tell_resolution};
 use cil_base::{List, NoMemory};
 use job_text::Command;
 use node_model::{Edit, Query};
+use resolver::Ask;
 use shared_module::{Answer, Decoder, Edited, Pass, SharedModule};
 use std::alloc::Global;
 use std::sync::Wait;
 
-/// Asks a query of the module `home`, as the command of number `place`.
-fn do_query<R: Wait, G: Decoder>(
+/// Asks a query of the module `home`, as the step of that number of the command of number `place`.
+pub(crate) fn do_query<R: Wait, G: Decoder>(
     rt: &R,
     alloc: Global,
     modules: &[SharedModule],
     actor: u32,
     place: u32,
+    step: u64,
     home: u32,
     query: &Query,
     passes: &mut List<Option<Pass>>,
@@ -29,11 +32,12 @@ fn do_query<R: Wait, G: Decoder>(
     requires passes { HasPasses modules.now actor passes.old }
     requires home { home < length modules.now }
     ensures passes { HasPasses modules.now actor passes.new }
-    ensures step { IfOk result (λ a. IsPassStep modules.now actor place (commands.Query home query.now) (saids.Query a)
+    ensures step { IfOk result (λ a. IsPassStep modules.now actor
+        (record { command = place; step = step; asked = commands.Query home query.now; said = saids.Query a })
         passes.old passes.new) }
 {
     let pass = take_pass(passes, home);
-    let (back, answer) = modules[home as usize].ask(rt, alloc, pass, place, 0, query, gate);
+    let (back, answer) = modules[home as usize].ask(rt, alloc, pass, place, step, query, gate);
     put_pass(passes, home, back);
     answer
 }
@@ -53,7 +57,8 @@ fn do_edit<R: Wait, G: Decoder>(
     requires passes { HasPasses modules.now actor passes.old }
     requires home { home < length modules.now }
     ensures passes { HasPasses modules.now actor passes.new }
-    ensures step { IfOk result (λ x. IsPassStep modules.now actor place (commands.Edit home edit.now) (saids.Edit x)
+    ensures step { IfOk result (λ x. IsPassStep modules.now actor
+        (record { command = place; step = 0; asked = commands.Edit home edit.now; said = saids.Edit x })
         passes.old passes.new) }
 {
     let pass = take_pass(passes, home);
@@ -75,6 +80,7 @@ pub(crate) fn do_command<R: Wait, G: Decoder>(
     gate: &G,
 ) -> Result<(), NoMemory>
     requires passes { HasPasses modules.now actor passes.old }
+    requires few { length modules.now ≤ 16 }
     requires runs { CanRun (length modules.now) command.now }
     requires next { place ≡ length said.old }
     ensures passes { HasPasses modules.now actor passes.new }
@@ -83,7 +89,7 @@ pub(crate) fn do_command<R: Wait, G: Decoder>(
     match command {
         Command::Query { module, query } => {
             let answer = do_query(
-                rt, alloc, modules, actor, place, *module, query, passes, gate,
+                rt, alloc, modules, actor, place, 0, *module, query, passes, gate,
             );
             tell_answer(said, answer)
         }
@@ -93,7 +99,17 @@ pub(crate) fn do_command<R: Wait, G: Decoder>(
             );
             tell_edit(said, edited)
         }
-        Command::Resolve { .. } => unreachable!(),
-        Command::Attribute { .. } => unreachable!(),
+        Command::Resolve { module, token } => {
+            let count = modules.len() as u32;
+            let ask = Ask::resolve(alloc, count, *module, *token);
+            let resolution = follow(rt, alloc, modules, actor, place, ask, passes, gate);
+            tell_resolution(said, resolution)
+        }
+        Command::Attribute { module, token } => {
+            let count = modules.len() as u32;
+            let ask = Ask::attribute(alloc, count, *module, *token);
+            let resolution = follow(rt, alloc, modules, actor, place, ask, passes, gate);
+            tell_resolution(said, resolution)
+        }
     }
 }

@@ -9,6 +9,8 @@
 mod actor;
 mod closing;
 mod command;
+mod end_text;
+mod following;
 mod images;
 mod job_file;
 mod opening;
@@ -26,6 +28,6 @@ pub use cecil_inspect::{FileCause, Status, inspect, status_line};
 pub use program::tool;
 pub use record::{ActorRecord, RunRecord};
 pub use run::run_job;
-pub use said::Said;
+pub use said::{Asked, Resolution, Said};
 pub use sound::tool_sound;
 pub use text::run_text;

@@ -1,11 +1,28 @@
 ghost use Rattle.std.specs.Prelude.{◌≡◌, ℕ, Some, slice_get, length, ◌<◌, OnOk};
 ghost use Rattle.cecil_top.specs.Commands.{outcome_row, said_token};
 ghost use Rattle.cecil_top.specs.declared.said.Said.{Said};
-ghost use Rattle.cecil_top.specs.inner.Passes.{IsToldAnswer, IsToldEdit};
+ghost use Rattle.cecil_top.specs.inner.Passes.{IsToldAnswer, IsToldEdit, IsToldResolution};
 
 use cil_base::{List, NoMemory, Token};
 use graph_edits::Outcome;
+use node_model::Query;
+use resolver::Next;
 use shared_module::{Answer, Edited};
+
+/// A question of a resolution, with the number of the module that was asked, and its answer.
+#[derive(Drop)]
+pub struct Asked {
+    pub home: u32,
+    pub query: Query,
+    pub answer: Answer,
+}
+
+/// Where a reference led, or what an attribute says, with all that was asked for it, in order.
+#[derive(Drop)]
+pub struct Resolution {
+    pub asked: List<Asked>,
+    pub end: Next,
+}
 
 /// What was answered to a command, with the point of its module's history at which it is true.
 #[derive(Drop)]
@@ -14,6 +31,8 @@ pub enum Said {
     Query(Answer),
     /// To an edit.
     Edit(Edited),
+    /// To a reference that is followed, or an attribute that is read.
+    Resolved(Resolution),
 }
 
 /// The row that an edit made.
@@ -34,6 +53,7 @@ impl Said {
         match self {
             Said::Query(_) => None,
             Said::Edit(edited) => row_made(&edited.outcome),
+            Said::Resolved(_) => None,
         }
     }
 }
@@ -68,6 +88,19 @@ pub(crate) fn tell_edit(
 {
     match edited {
         Ok(edited) => said.push(Said::Edit(edited)),
+        Err(NoMemory) => Err(NoMemory),
+    }
+}
+
+/// Puts a resolution, if there is one, behind what was said.
+pub(crate) fn tell_resolution(
+    said: &mut List<Said>,
+    resolution: Result<Resolution, NoMemory>,
+) -> Result<(), NoMemory>
+    ensures { OnOk result (IsToldResolution resolution said.old said.new) }
+{
+    match resolution {
+        Ok(resolution) => said.push(Said::Resolved(resolution)),
         Err(NoMemory) => Err(NoMemory),
     }
 }

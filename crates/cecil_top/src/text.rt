@@ -2,14 +2,16 @@
 ghost use Rattle.std.specs.Prelude.{◌≡◌, ◌∷◌, ◌++◌, IfOk, OnOk, codes};
 ghost use Rattle.std.specs.Fmt.{decimal};
 ghost use Rattle.cecil_inspect.specs.Lines.{line};
-ghost use Rattle.cecil_top.specs.Commands.{home_of, point_of};
-ghost use Rattle.cecil_top.specs.RunText.{actor_lines, answer_line, answer_lines, answer_place, entry_line, entry_lines};
-ghost use Rattle.cecil_top.specs.RunText.{history_line, history_text, history_texts, run_text, said_text};
+ghost use Rattle.cecil_top.specs.Commands.{home_of};
+ghost use Rattle.cecil_top.specs.RunText.{actor_lines, answer_line, answer_lines, answer_place, ask_line, ask_lines};
+ghost use Rattle.cecil_top.specs.RunText.{end_line, end_word, entry_line, entry_lines, history_line, history_text};
+ghost use Rattle.cecil_top.specs.RunText.{history_texts, outcome_line, run_text, said_lines};
 ghost use Rattle.dump_text.specs.Entries.{entry_text};
 ghost use Rattle.dump_text.specs.Outcomes.{outcome_text};
 
+use crate::end_text::add_end;
 use crate::record::{ActorRecord, RunRecord};
-use crate::said::Said;
+use crate::said::{Asked, Said};
 use cecil_inspect::add_decimal;
 use cil_base::{Bytes, List, NoMemory};
 use dump_text::{add_reply, entry_text, outcome_text};
@@ -17,6 +19,8 @@ use graph_edits::Outcome;
 use job_text::Command;
 use lazy_core::Core;
 use node_model::Entry;
+use resolver::Next;
+use shared_module::{Answer, Edited};
 use std::alloc::Global;
 
 /// The number of the module that a command speaks of.
@@ -28,16 +32,6 @@ fn home_of(command: &Command) -> u32
         Command::Edit { module, .. } => *module,
         Command::Resolve { module, .. } => *module,
         Command::Attribute { module, .. } => *module,
-    }
-}
-
-/// The point of the module's history for which an answer is given.
-fn point_of(said: &Said) -> u64
-    ensures { result ≡ point_of said.now }
-{
-    match said {
-        Said::Query(answer) => answer.at,
-        Said::Edit(edited) => edited.at,
     }
 }
 
@@ -68,17 +62,87 @@ fn add_outcome(text: &mut Bytes, outcome: &Outcome) -> Result<(), NoMemory>
     text.extend(told.as_slice())
 }
 
-/// Adds what was said, without its point.
-fn add_said(text: &mut Bytes, said: &Said) -> Result<(), NoMemory>
-    ensures { OnOk result (text.new ≡ text.old ++ said_text said.now) }
+/// Adds the line of one reply.
+fn add_answer_line(
+    text: &mut Bytes,
+    actor: u64,
+    number: u64,
+    home: u32,
+    answer: &Answer,
+) -> Result<(), NoMemory>
+    ensures { OnOk result (text.new ≡ text.old ++ answer_line actor number home answer.now) }
 {
-    match said {
-        Said::Query(answer) => add_reply(text, &answer.reply),
-        Said::Edit(edited) => add_outcome(text, &edited.outcome),
+    add_answer_place(text, actor, number, home, answer.at)?;
+    text.push(b' ')?;
+    add_reply(text, &answer.reply)?;
+    text.push(b'\n')
+}
+
+/// Adds the line of what an edit came to.
+fn add_outcome_line(
+    text: &mut Bytes,
+    actor: u64,
+    number: u64,
+    home: u32,
+    edited: &Edited,
+) -> Result<(), NoMemory>
+    ensures { OnOk result (text.new ≡ text.old ++ outcome_line actor number home edited.now) }
+{
+    add_answer_place(text, actor, number, home, edited.at)?;
+    text.push(b' ')?;
+    add_outcome(text, &edited.outcome)?;
+    text.push(b'\n')
+}
+
+/// Adds the line of one question of a resolution.
+fn add_ask(text: &mut Bytes, actor: u64, number: u64, asked: &Asked) -> Result<(), NoMemory>
+    ensures { OnOk result (text.new ≡ text.old ++ ask_line actor number asked.now) }
+{
+    add_answer_place(text, actor, number, asked.home, asked.answer.at)?;
+    text.extend(b" ask ")?;
+    add_reply(text, &asked.answer.reply)?;
+    text.push(b'\n')
+}
+
+/// Adds the lines of all questions of a resolution.
+fn add_asks(text: &mut Bytes, actor: u64, number: u64, asked: &[Asked]) -> Result<(), NoMemory>
+    ensures { OnOk result (text.new ≡ text.old ++ ask_lines actor number asked.now) }
+{
+    for one in asked {
+        add_ask(text, actor, number, one)?;
+    }
+    Ok(())
+}
+
+/// What the end of a command is called.
+fn end_word(command: &Command) -> &'static [u8]
+    ensures { result.now ≡ end_word command.now }
+{
+    match command {
+        Command::Attribute { .. } => b" attribute ",
+        _ => b" resolve ",
     }
 }
 
-/// Adds the line of one answer.
+/// Adds the line of a resolution's end.
+fn add_end_line(
+    text: &mut Bytes,
+    actor: u64,
+    number: u64,
+    command: &Command,
+    end: &Next,
+) -> Result<(), NoMemory>
+    ensures { OnOk result (text.new ≡ text.old ++ end_line actor number command.now end.now) }
+{
+    add_decimal(text, actor)?;
+    text.push(b'.')?;
+    add_decimal(text, number)?;
+    text.extend(end_word(command))?;
+    add_end(text, end)?;
+    text.push(b'\n')
+}
+
+/// Adds the lines of one answer.
 fn add_answer(
     text: &mut Bytes,
     actor: u64,
@@ -86,12 +150,16 @@ fn add_answer(
     command: &Command,
     said: &Said,
 ) -> Result<(), NoMemory>
-    ensures { OnOk result (text.new ≡ text.old ++ answer_line actor number command.now said.now) }
+    ensures { OnOk result (text.new ≡ text.old ++ said_lines actor number command.now said.now) }
 {
-    add_answer_place(text, actor, number, home_of(command), point_of(said))?;
-    text.push(b' ')?;
-    add_said(text, said)?;
-    text.push(b'\n')
+    match said {
+        Said::Query(answer) => add_answer_line(text, actor, number, home_of(command), answer),
+        Said::Edit(edited) => add_outcome_line(text, actor, number, home_of(command), edited),
+        Said::Resolved(resolution) => {
+            add_asks(text, actor, number, resolution.asked.as_slice())?;
+            add_end_line(text, actor, number, command, &resolution.end)
+        }
+    }
 }
 
 /// Adds the lines of all answers to an actor.
@@ -196,7 +264,9 @@ fn add_histories(text: &mut Bytes, cores: &[Core]) -> Result<(), NoMemory>
     Ok(())
 }
 
-/// The text of a run: for each answer to each actor the line `ACTOR.COMMAND mMODULE @POINT ANSWER`, and then for each
+/// The text of a run: for each answer to each actor the line `ACTOR.COMMAND mMODULE @POINT ANSWER`, where a resolution has
+/// the line `ACTOR.COMMAND mMODULE @POINT ask REPLY` for each question and then the line `ACTOR.COMMAND resolve END` or
+/// `ACTOR.COMMAND attribute END`; and then for each
 /// module the line `mMODULE history COUNT` and for each of its entries, from 1 on, the line `mMODULE NUMBER ENTRY`. Every
 /// line ends with a line feed.
 #[tactic(auto, unfolding(crate::specs::RunText::run_text))]

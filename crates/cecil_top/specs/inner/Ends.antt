@@ -4,6 +4,7 @@ use Rattle.std.specs.Prelude.{◌≡◌, ℕ, ◌<◌, ◌≤◌, List, All, Non
 use Rattle.lazy_core.specs.History.{entry_caller}
 use Rattle.lazy_core.specs.Legal.{Legal}
 use Rattle.lazy_core.specs.Slots.{CoreState}
+use Rattle.cecil_top.specs.Acts.{acts_of}
 use Rattle.cecil_top.specs.Explained.{ExplainsCaller}
 use Rattle.cecil_top.specs.declared.actor.Actor.{Actor}
 use Rattle.cecil_top.specs.declared.record.ActorRecord.{ActorRecord}
@@ -40,7 +41,7 @@ pub record CanClose (l : Shared) (m : ℕ) (actors : List Actor) : Type 0 where
       → IsPassFor l i p
   pub explained :
       (i : ℕ) (a : Actor) (p : Option Held) → slice_get actors i ≡ Some a → slice_get a.passes m ≡ Some p
-      → ExplainsCaller l.base i m a.commands a.said (seen_by p)
+      → ExplainsCaller l.base i m (acts_of a.commands a.said) (seen_by p)
 
 -- the core of a module at its end
 pub record IsClosed (l : Shared) (m : ℕ) (actors : List Actor) (core : CoreState) : Type 0 where
@@ -49,7 +50,7 @@ pub record IsClosed (l : Shared) (m : ℕ) (actors : List Actor) (core : CoreSta
   pub callers : All (λ e. entry_caller e < length actors) core.history
   pub explained :
       (i : ℕ) (a : Actor) → slice_get actors i ≡ Some a
-      → ExplainsCaller core.bytes i m a.commands a.said core.history
+      → ExplainsCaller core.bytes i m (acts_of a.commands a.said) core.history
 
 abbrev pub AllCanClose : List Shared → List Actor → Type 0
 AllCanClose modules actors = (m : ℕ) (l : Shared) → slice_get modules m ≡ Some l → CanClose l m actors

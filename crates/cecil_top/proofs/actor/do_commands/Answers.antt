@@ -22,7 +22,7 @@ do_command-requires-clause-runs g c =
     let within = subst (λ l. n < length l) (sym now) (omega (arith, many, length-append cs (replaced_command made asked ∷ []))) in
     let there = ap (λ l. slice_get l n) (sym c.as_slice-in-loop-place.ensures) ∙ read_at c.as_slice-in-loop-place.result.now n x within c.index-as_slice-place.is in
     subst (CanRun modules) (next_is cs c.push_replaced.new.commands n (replaced_command made asked) x many pushed there)
-    (replaced_runs modules made asked (all_at (CanRun modules) given c.requires.fit.1 n asked at))
+    (replaced_runs modules made asked (all_at (CanRun modules) given c.requires.fit.2 n asked at))
 
 pub loop-place-preserved : goal.loop-place-preserved
 loop-place-preserved g c =
@@ -39,7 +39,7 @@ loop-place-preserved g c =
     let within = subst (λ l. n < length l) (sym now) (omega (arith, many, length-append cs (replaced_command c.loop-place.made asked ∷ []))) in
     let there = ap (λ l. slice_get l n) (sym c.as_slice-in-loop-place.ensures) ∙ read_at c.as_slice-in-loop-place.result.now n x within c.index-as_slice-place.is in
     let done = next_done c.args.modules.now c.args.actor given cs c.loop-place.said c.loop-place.made n c.loop-place.passes c.do_command.new.passes
-    c.loop-place.invariant.0 c.loop-place.invariant.1 c.loop-place.invariant.2 asked x c.push_replaced.new.commands c.do_command.new.said c.push.new.self c.token_made_at.result
+    c.loop-place.invariant.1 c.loop-place.invariant.2 asked x c.push_replaced.new.commands c.do_command.new.said c.push.new.self c.token_made_at.result
     at pushed there c.in_ok-do_command.ensures.said
     (λ a is. c.token_made_at.ensures a (ap (λ l. slice_get l n) c.as_slice-in-loop-place-2.ensures ∙ is)) c.in_ok-push.ensures.ok in
     (c.do_command.ensures.passes, done.0, done.1)

@@ -29,5 +29,5 @@ returns-clause-step g c =
     let at = read_at c.args.modules.now c.args.home l c.requires.home c.index-modules-home.is in
     let mine = c.requires.passes.each c.args.home l (Some p) at c.take_pass-pass.ensures.pass in
     query_step c.args.modules.now c.args.actor c.args.home c.args.passes.now c.take_pass-pass.new.passes c.put_pass.new.passes p c.ask-back.result.0 l at
-    c.take_pass-pass.ensures.pass c.take_pass-pass.ensures.rest c.put_pass.ensures mine.1 c.args.place c.args.query.now c.ask-back.result.1
+    c.take_pass-pass.ensures.pass c.take_pass-pass.ensures.rest c.put_pass.ensures mine.1 c.args.place c.args.step c.args.query.now c.ask-back.result.1
     c.ask-back.ensures.adds c.ask-back.ensures.answer
