@@ -1,0 +1,4 @@
+pub mod OfTypes
+pub mod RowHolds
+pub mod HoldsValue
+pub mod GraphHolds
