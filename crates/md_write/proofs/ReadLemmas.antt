@@ -20,7 +20,7 @@ use Rattle.md_schema.proofs.LinkLemmas.{link_stands}
 use Rattle.md_schema.proofs.RunLemmas.{run_of-runs}
 use Rattle.md_write.specs.LinksRead.{LinksRead, names_parent}
 use Rattle.md_write.specs.RunsRead.{RunsRead, StartsRise, end_of_run}
-use Rattle.md_write.specs.TableRows.{number_written, row_count}
+use Rattle.md_write.specs.TableRows.{written_number, row_count}
 use Rattle.md_write.specs.TablesRead.{HoldsRows}
 
 is-some : {A : Type 0} (o : Option A) (x : A) → o ≡ Some x → IsSome o
@@ -57,12 +57,12 @@ is-run rows start end first rise last =
 
 -- the run that was written of an owner
 run-written : (tables : List (List (List ℕ))) (owner : Token) (table column : ℕ) → StartsRise tables owner.table table column → 1 ≤ owner.rid → owner.rid ≤ row_count tables owner.table
-    → IsRun (row_count tables table) (number_written tables owner.table owner.rid column) (end_of_run tables owner.table table column owner.rid)
+    → IsRun (row_count tables table) (written_number tables owner.table owner.rid column) (end_of_run tables owner.table table column owner.rid)
 run-written tables owner table column starts first last =
     let count = row_count tables owner.table in
     let rows = row_count tables table in
-    let start = number_written tables owner.table owner.rid column in
-    let next = number_written tables owner.table (owner.rid + 1) column in
+    let start = written_number tables owner.table owner.rid column in
+    let next = written_number tables owner.table (owner.rid + 1) column in
     let (least, most) = starts.within owner.rid first last in
     elim (eqb owner.rid count) as (λ b. eqb owner.rid count ≡ b → IsRun rows start (cond b (rows + 1) next)) [
       | true ↦ λ e. is-run rows start (rows + 1) least most (omega arith)
@@ -82,13 +82,13 @@ module _ (heap_sizes : ℕ) (tables : List (List (List ℕ))) (stream : List ℕ
       let next = cell_of stream owner.table (owner.rid + 1) column in
       ap (λ (n : ℕ). cond (eqb owner.rid n) (table_row_count stream table + 1) next) (holds.counts owner.table)
       ∙ ap (λ (n : ℕ). cond (eqb owner.rid count) (n + 1) next) (holds.counts table)
-      ∙ elim (eqb owner.rid count) as (λ b. eqb owner.rid count ≡ b → cond b (rows + 1) next ≡ cond b (rows + 1) (number_written tables owner.table (owner.rid + 1) column)) [
+      ∙ elim (eqb owner.rid count) as (λ b. eqb owner.rid count ≡ b → cond b (rows + 1) next ≡ cond b (rows + 1) (written_number tables owner.table (owner.rid + 1) column)) [
         | true ↦ λ e. refl
         | false ↦ λ e. holds.cells owner.table (owner.rid + 1) column (omega arith) (next-row owner.rid count (eqb-false owner.rid count e) last) some
       ] refl
 
   run-read : (owner : Token) (table column : ℕ) → start_column_of owner.table table ≡ Some column → StartsRise tables owner.table table column → 1 ≤ owner.rid → owner.rid ≤ row_count tables owner.table
-      → Runs stream owner table (Some (number_written tables owner.table owner.rid column, end_of_run tables owner.table table column owner.rid))
+      → Runs stream owner table (Some (written_number tables owner.table owner.rid column, end_of_run tables owner.table table column owner.rid))
   run-read owner table column is starts first last other at =
       let some = start-column owner.table table column is in
       let start = holds.cells owner.table owner.rid column first last some in
@@ -99,8 +99,8 @@ module _ (heap_sizes : ℕ) (tables : List (List (List ℕ))) (stream : List ℕ
       let read : IsRun (table_row_count stream table) (cell_of stream owner.table owner.rid column) (run_end stream owner table column) =
       subst (λ (n : ℕ). IsRun n (cell_of stream owner.table owner.rid column) (run_end stream owner table column)) (sym rows)
       (subst (λ (n : ℕ). IsRun (row_count tables table) n (run_end stream owner table column)) (sym start)
-      (subst (λ (n : ℕ). IsRun (row_count tables table) (number_written tables owner.table owner.rid column) n) (sym end) run)) in
-      subst (λ (c : ℕ). MatchesRun (table_row_count stream table) (cell_of stream owner.table owner.rid c) (run_end stream owner table c) (Some (number_written tables owner.table owner.rid column, end_of_run tables owner.table table column owner.rid))) same
+      (subst (λ (n : ℕ). IsRun (row_count tables table) (written_number tables owner.table owner.rid column) n) (sym end) run)) in
+      subst (λ (c : ℕ). MatchesRun (table_row_count stream table) (cell_of stream owner.table owner.rid c) (run_end stream owner table c) (Some (written_number tables owner.table owner.rid column, end_of_run tables owner.table table column owner.rid))) same
       (sym start, sym end, read)
 
   -- the rows of a table that pass one test pass the other

@@ -16,7 +16,7 @@ use Rattle.md_schema.specs.declared.column_width.Counts.{Counts}
 use Rattle.md_tables.specs.Written.{Fits, row_bytes}
 use Rattle.md_tables.proofs.CellLemmas.{some_is}
 use Rattle.md_tables.proofs.WrittenLemmas.{rows_read_back}
-use Rattle.md_write.specs.TableRows.{AreTableRows, counts_of_rows, number_written, row_count, row_counts, rows_at}
+use Rattle.md_write.specs.TableRows.{AreTableRows, counts_of_rows, written_number, row_count, row_counts, rows_at}
 use Rattle.md_write.specs.TablesRead.{HoldsRows, StreamHoldsRows, head_of_rows}
 use Rattle.md_write.specs.TablesStream.{bytes_below, columns_at, count_bytes, counts_and_rows, has_rows, table_bytes, tables_header, tables_stream, valid_of_rows, zeros_to_four}
 use Rattle.md_write.proofs.StandsLemmas.{StandsIn, stands-at, stands-byte, stands-first, stands-in, stands-last, stands-number, stands-within}
@@ -189,7 +189,7 @@ module _ (heap_sizes : ℕ) (tables : List (List (List ℕ))) (ok : AreTableRows
         stands = subst (λ h. first_place h 64 ≤ length stream) (sym head-read) stands;
       }
 
-  cell-read : (t rid column : ℕ) → 1 ≤ rid → rid ≤ row_count tables t → IsSome (column_of t column) → cell_of stream t rid column ≡ number_written tables t rid column
+  cell-read : (t rid column : ℕ) → 1 ≤ rid → rid ≤ row_count tables t → IsSome (column_of t column) → cell_of stream t rid column ≡ written_number tables t rid column
   unfolding cell_of place_of offset_of
   cell-read t rid column first last some =
       let i = rid - 1 in

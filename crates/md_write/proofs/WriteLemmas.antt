@@ -1,5 +1,5 @@
 -- What the steps of writing leave.
-use Rattle.std.proofs.Common.{◌≡◌, ℕ, zero, suc, ◌+◌, ◌<◌, ◌≤◌, List, [], ◌∷◌, ◌++◌, Bool, true, false, cond, map, length, get_or, slice_index, take, refl, sym, ap, ◌∙◌, arith}
+use Rattle.std.proofs.Common.{◌≡◌, ℕ, zero, suc, ◌+◌, ◌<◌, ◌≤◌, List, [], ◌∷◌, ◌++◌, Bool, true, false, cond, length, get_or, slice_index, take, refl, sym, ap, ◌∙◌, arith}
 use Rattle.std.specs.List.{flat_map}
 use Rattle.std.proofs.lemmas.List.{append_assoc, append-nil, flat_map_more, length-map, length-take-le, take_more}
 use Rattle.byteorder.specs.Endian.{little_bytes}
@@ -12,7 +12,7 @@ use Rattle.md_schema.specs.declared.column_width.Counts.{Counts}
 use Rattle.md_tables.specs.Written.{row_bytes}
 use Rattle.md_write.specs.TableRows.{IsRowFor}
 use Rattle.md_write.specs.TablesStream.{bytes_below, columns_at, table_bytes}
-use Rattle.md_write.specs.inner.Widths.{bytes_in_widths}
+use Rattle.md_write.specs.inner.Widths.{bytes_in_widths, widths_of}
 use Rattle.md_write.proofs.BelowLemmas.{bytes_below-more, bytes_below-zero}
 use Rattle.md_write.proofs.RowLemmas.{row_of}
 
@@ -46,10 +46,6 @@ kind-narrow (Coded kind) counts = narrow _
 kind-narrow (Start table) counts = narrow _
 kind-narrow Rva counts = omega arith
 kind-narrow Offset counts = omega arith
-
--- the bytes of each column
-abbrev pub widths_of : Counts → List Column → List ℕ
-widths_of counts columns = map (λ (column : Column). column_width_of column.kind counts) columns
 
 pub widths-narrow : (counts : Counts) (columns : List Column) (place : ℕ) → slice_index (widths_of counts columns) place ≤ 4
 widths-narrow counts [] place = omega arith

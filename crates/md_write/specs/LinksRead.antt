@@ -7,13 +7,13 @@ use Rattle.md_schema.specs.Link.{link_column_of, link_kind_of, link_table_of}
 use Rattle.md_schema.specs.LinkedRows.{linked_of, rows_to}
 use Rattle.md_schema.specs.Reference.{is_named}
 use Rattle.md_schema.specs.declared.link.Link.{Link}
-use Rattle.md_write.specs.TableRows.{number_written, row_count}
+use Rattle.md_write.specs.TableRows.{written_number, row_count}
 use Rattle.md_write.specs.TablesRead.{HoldsRows}
 
 -- whether the number in the link's column of this row names the token
 abbrev pub names_parent : List (List (List ℕ)) → Token → Link → Token → Bool
 names_parent tables parent link row =
-    option_map_or (λ kind. is_named kind (number_written tables row.table row.rid (link_column_of link)) parent)
+    option_map_or (λ kind. is_named kind (written_number tables row.table row.rid (link_column_of link)) parent)
     (link_kind_of link) false
 
 -- the rows that are linked to a token are those whose numbers name it, in order

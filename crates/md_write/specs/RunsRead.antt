@@ -3,21 +3,22 @@ use Rattle.std.specs.Prelude.{ℕ, ◌≡◌, ◌<◌, ◌≤◌, ◌+◌, ◌==
 use Rattle.cil_base.specs.Token.{Token}
 use Rattle.md_schema.specs.Entry.{start_column_of}
 use Rattle.md_schema.specs.Runs.{run_of}
-use Rattle.md_write.specs.TableRows.{number_written, row_count}
+use Rattle.md_write.specs.TableRows.{written_number, row_count}
 use Rattle.md_write.specs.TablesRead.{HoldsRows}
 
 -- where the runs of a table begin, by a column of their owners: at a row or past the last one, and none before the one
 -- of the owner before it
 pub record StartsRise (tables : List (List (List ℕ))) (owner table column : ℕ) : Type 0 where
   pub within : (rid : ℕ) → 1 ≤ rid → rid ≤ row_count tables owner
-      → (1 ≤ number_written tables owner rid column) × (number_written tables owner rid column ≤ row_count tables table + 1)
+      → (1 ≤ written_number tables owner rid column)
+      × (written_number tables owner rid column ≤ row_count tables table + 1)
   pub rise : (rid : ℕ) → 1 ≤ rid → rid < row_count tables owner
-      → number_written tables owner rid column ≤ number_written tables owner (rid + 1) column
+      → written_number tables owner rid column ≤ written_number tables owner (rid + 1) column
 
 -- where the run of an owner ends: where that of the next one begins, or past the last row
 abbrev pub end_of_run : List (List (List ℕ)) → ℕ → ℕ → ℕ → ℕ → ℕ
 end_of_run tables owner table column rid =
-    if rid == row_count tables owner then row_count tables table + 1 else number_written tables owner (rid + 1) column
+    if rid == row_count tables owner then row_count tables table + 1 else written_number tables owner (rid + 1) column
 
 -- each owner has the run from its start to the next
 abbrev pub RunsRead : Type 0
@@ -28,4 +29,4 @@ RunsRead =
     → StartsRise tables owner.table table column
     → 1 ≤ owner.rid → owner.rid ≤ row_count tables owner.table
     → run_of stream owner table
-    ≡ Some (number_written tables owner.table owner.rid column, end_of_run tables owner.table table column owner.rid)
+    ≡ Some (written_number tables owner.table owner.rid column, end_of_run tables owner.table table column owner.rid)

@@ -5,7 +5,7 @@ use Rattle.md_schema.specs.Entry.{column_of}
 use Rattle.md_schema.specs.Header.{sum_below}
 use Rattle.md_schema.specs.Layout.{Head, OpensTables}
 use Rattle.md_schema.specs.Runs.{table_row_count}
-use Rattle.md_write.specs.TableRows.{AreTableRows, counts_of_rows, number_written, row_count, rows_at}
+use Rattle.md_write.specs.TableRows.{AreTableRows, counts_of_rows, written_number, row_count, rows_at}
 use Rattle.md_write.specs.TablesStream.{has_rows, tables_stream}
 
 -- the header: how many tables have rows, the rows of each, and which heaps are large
@@ -20,7 +20,7 @@ pub record HoldsRows (heap_sizes : ℕ) (tables : List (List (List ℕ))) (strea
   pub opens : OpensTables stream (head_of_rows heap_sizes tables)
   pub counts : (table : ℕ) → table_row_count stream table ≡ row_count tables table
   pub cells : (table rid column : ℕ) → 1 ≤ rid → rid ≤ row_count tables table → IsSome (column_of table column)
-      → cell_of stream table rid column ≡ number_written tables table rid column
+      → cell_of stream table rid column ≡ written_number tables table rid column
 
 -- what is written is read back
 abbrev pub StreamHoldsRows : Type 0

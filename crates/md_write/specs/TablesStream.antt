@@ -41,11 +41,17 @@ columns_at table = unwrap_or (columns_of table) []
 abbrev pub table_bytes : Counts → ℕ → List (List ℕ) → List ℕ
 table_bytes counts table rows = flat_map (row_bytes counts (columns_at table)) rows
 
--- the counts of all tables, and then the rows of all tables, by rising numbers of the tables
+-- the counts of all tables, by rising numbers of the tables
+abbrev pub all_count_bytes : List (List (List ℕ)) → List ℕ
+all_count_bytes tables = bytes_below (λ table. count_bytes (rows_at tables table)) 64
+
+-- and their rows
+abbrev pub all_row_bytes : Counts → List (List (List ℕ)) → List ℕ
+all_row_bytes counts tables = bytes_below (λ table. table_bytes counts table (rows_at tables table)) 64
+
 unfoldable pub counts_and_rows : ℕ → List (List (List ℕ)) → List ℕ
 counts_and_rows heap_sizes tables =
-    bytes_below (λ table. count_bytes (rows_at tables table)) 64
-    ++ bytes_below (λ table. table_bytes (counts_of_rows heap_sizes tables) table (rows_at tables table)) 64
+    all_count_bytes tables ++ all_row_bytes (counts_of_rows heap_sizes tables) tables
 
 -- zeros behind so many bytes, up to a multiple of 4
 abbrev pub zeros_to_four : ℕ → List ℕ

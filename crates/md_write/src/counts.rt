@@ -1,13 +1,13 @@
 ghost use Rattle.std.specs.Prelude.{ℕ, ◌≡◌, ◌<◌, ◌^◌, ◌++◌, length, OnOk};
-ghost use Rattle.md_write.specs.TableRows.{counts_of_rows, row_count, rows_at};
-ghost use Rattle.md_write.specs.TablesStream.{bytes_below, count_bytes};
+ghost use Rattle.md_write.specs.TableRows.{counts_of_rows, row_count};
+ghost use Rattle.md_write.specs.TablesStream.{all_count_bytes, count_bytes};
 
 use crate::number::push_number;
 use cil_base::{Bytes, List, NoMemory};
 use md_schema::Counts;
 
-/// Returns what decides the widths of the columns of rows, which stand in 64 lists by the numbers of their tables: the rows of
-/// each table, and the bits of the large heaps (ECMA-335 II.24.2.6).
+/// Returns what decides the widths of the columns of rows, which stand in 64 lists by the numbers of their tables: the
+/// rows of each table, and the bits of the large heaps (ECMA-335 II.24.2.6).
 pub fn counts_of_rows(heap_sizes: u8, tables: &[List<List<u32>>]) -> Counts
     requires all { length tables.now ≡ 64 }
     requires few { (table : ℕ) → row_count tables.now table < 2 ^ 24 }
@@ -35,7 +35,7 @@ fn push_count(out: &mut Bytes, rows: &[List<u32>]) -> Result<(), NoMemory>
 pub(crate) fn push_counts(out: &mut Bytes, tables: &[List<List<u32>>]) -> Result<(), NoMemory>
     requires all { length tables.now ≡ 64 }
     requires few { (table : ℕ) → row_count tables.now table < 2 ^ 24 }
-    ensures { OnOk result (out.new ≡ out.old ++ bytes_below (λ table. count_bytes (rows_at tables.now table)) 64) }
+    ensures { OnOk result (out.new ≡ out.old ++ all_count_bytes tables.now) }
 {
     for table in 0..64 {
         push_count(out, tables[table].as_slice())?;

@@ -10,8 +10,8 @@ pub fn stream_holds_rows()
     ensures { StreamHoldsRows }
 {}
 
-/// Where the starts of an owner's column never fall, each owner is read with the run from its start to the next one's, and
-/// the last owner with the run to the end of the table (ECMA-335 II.22.37).
+/// Where the starts of an owner's column never fall, each owner is read with the run from its start to the next one's,
+/// and the last owner with the run to the end of the table (ECMA-335 II.22.37).
 pub fn runs_read()
     ensures { RunsRead }
 {}

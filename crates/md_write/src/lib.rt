@@ -1,5 +1,5 @@
-//! The tables stream `#~` of rows of numbers: its header, the counts and the rows (ECMA-335 II.24.2.6), and laws which say
-//! that the cells, runs and linked rows that are read of it are those that were written.
+//! The tables stream `#~` of rows of numbers: its header, the counts and the rows (ECMA-335 II.24.2.6), and laws which
+//! say that the cells, runs and linked rows that are read of it are those that were written.
 #![tactic(auto)]
 
 mod counts;

@@ -1,9 +1,8 @@
-ghost use Rattle.std.specs.Prelude.{ℕ, List, ◌≡◌, ◌≤◌, ◌++◌, length, map, slice_get, slice_index, Some, IfOk, OnOk};
+ghost use Rattle.std.specs.Prelude.{ℕ, ◌≡◌, ◌≤◌, ◌++◌, length, slice_index, IfOk, OnOk};
 ghost use Rattle.md_schema.specs.Column.{seen_columns};
-ghost use Rattle.md_schema.specs.Width.{column_width_of};
-ghost use Rattle.md_write.specs.TableRows.{IsRowFor, rows_at};
-ghost use Rattle.md_write.specs.TablesStream.{bytes_below, columns_at, table_bytes};
-ghost use Rattle.md_write.specs.inner.Widths.{bytes_in_widths};
+ghost use Rattle.md_write.specs.TableRows.{AreRowsFor, rows_at};
+ghost use Rattle.md_write.specs.TablesStream.{all_row_bytes, columns_at, table_bytes};
+ghost use Rattle.md_write.specs.inner.Widths.{bytes_in_widths, widths_of};
 
 use crate::number::push_number;
 use cil_base::{Bytes, List, NoMemory};
@@ -22,7 +21,7 @@ fn columns_at(table: u8) -> &'static [Column]
 
 /// The bytes of each column.
 fn widths(alloc: Global, columns: &[Column], counts: &Counts) -> Result<Bytes, NoMemory>
-    ensures widths { IfOk result (λ widths. widths ≡ map (λ column. column_width_of column.kind counts.now) columns.now) }
+    ensures widths { IfOk result (λ widths. widths ≡ widths_of counts.now columns.now) }
     ensures few { IfOk result (λ widths. (place : ℕ) → slice_index widths place ≤ 4) }
 {
     let mut widths = List::new(alloc);
@@ -51,7 +50,7 @@ fn push_table(
     table: u8,
     rows: &[List<u32>],
 ) -> Result<(), NoMemory>
-    requires { (place : ℕ) (numbers : List ℕ) → slice_get rows.now place ≡ Some numbers → IsRowFor counts.now table numbers }
+    requires { AreRowsFor counts.now table rows.now }
     ensures { OnOk result (out.new ≡ out.old ++ table_bytes counts.now table rows.now) }
 {
     let widths = widths(out.allocator(), columns_at(table), counts)?;
@@ -68,8 +67,8 @@ pub(crate) fn push_rows(
     tables: &[List<List<u32>>],
 ) -> Result<(), NoMemory>
     requires all { length tables.now ≡ 64 }
-    requires fit { (table place : ℕ) (numbers : List ℕ) → slice_get (rows_at tables.now table) place ≡ Some numbers → IsRowFor counts.now table numbers }
-    ensures { OnOk result (out.new ≡ out.old ++ bytes_below (λ table. table_bytes counts.now table (rows_at tables.now table)) 64) }
+    requires fit { (table : ℕ) → AreRowsFor counts.now table (rows_at tables.now table) }
+    ensures { OnOk result (out.new ≡ out.old ++ all_row_bytes counts.now tables.now) }
 {
     for table in 0..64 {
         push_table(out, counts, table, tables[table as usize].as_slice())?;

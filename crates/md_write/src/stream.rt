@@ -10,8 +10,8 @@ use cil_base::{Bytes, List, NoMemory};
 use std::alloc::Global;
 
 /// The tables stream of these rows: 64 lists of rows, by the numbers of their tables, each row with a number for each
-/// column (ECMA-335 II.24.2.6). `heap_sizes` has the bits of the large heaps (1 `#Strings`, 2 `#GUID`, 4 `#Blob`). The bytes
-/// are padded with zeros to a multiple of 4.
+/// column (ECMA-335 II.24.2.6). `heap_sizes` has the bits of the large heaps (1 `#Strings`, 2 `#GUID`, 4 `#Blob`). The
+/// bytes are padded with zeros to a multiple of 4.
 pub fn tables_stream(
     alloc: Global,
     heap_sizes: u8,

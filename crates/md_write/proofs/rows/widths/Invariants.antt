@@ -1,5 +1,5 @@
 use Rattle.std.proofs.Common.{◌≡◌, take}
-use Rattle.md_write.proofs.WriteLemmas.{widths_of}
+use Rattle.md_write.specs.inner.Widths.{widths_of}
 use Rattle.md_write.proofs.rows.widths.Given as goal
 
 -- the widths of the columns so far
