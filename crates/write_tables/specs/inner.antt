@@ -1,0 +1,3 @@
+pub mod ColumnCell
+pub mod Gathered
+pub mod PlacedColumns
